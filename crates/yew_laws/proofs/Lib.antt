@@ -1,0 +1,13 @@
+pub mod Bags
+pub mod Below
+pub mod Bounds
+pub mod Covering
+pub mod Folds
+pub mod Incumbents
+pub mod Members
+pub mod Once
+pub mod PathTests
+pub mod Steps
+pub mod Trees
+pub mod Views
+pub mod Weights

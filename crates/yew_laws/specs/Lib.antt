@@ -1,0 +1,10 @@
+pub mod Bag
+pub mod Cover
+pub mod Fold
+pub mod Greatest
+pub mod Incumbent
+pub mod Optimum
+pub mod Order
+pub mod PathValue
+pub mod SearchTree
+pub mod Tree

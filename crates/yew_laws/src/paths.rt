@@ -1,0 +1,96 @@
+//! The path of a node: the number of a child at each step from the root.
+
+ghost use Rattle.std.specs.Prelude.{◌≡◌, ◌+◌, ◌<◌, ◌≤◌, ◌^◌, List, [], ◌∷◌, ◌++◌, length, IfOk};
+
+use crate::memory::Memory;
+use std::alloc::Global;
+use std::marker::Model;
+
+/// The way from the root of a tree to a node: the number of a child at each step, counted from 0. The root has the
+/// empty path.
+///
+/// A path has a space, a number of steps that it can hold without taking memory. Paths are compared by their numbers
+/// alone: a prefix comes first, and otherwise the first number that differs decides.
+#[derive(Drop)]
+pub struct Path {
+    steps: Vec<u32>,
+    room: usize,
+}
+
+impl Model for Path {
+    ghost use Rattle.std.specs.Prelude.{length, vec_capacity, ◌≤◌};
+    ghost use Rattle.yew_laws.specs.PathValue.{PathValue};
+
+    ghost Value = { PathValue };
+
+    ghost view = { λ a. record { numbers = a.steps.items; space = a.room } };
+
+    ghost invariant = { λ a. (length a.steps.items ≤ a.room) × (a.room ≤ vec_capacity a.steps) };
+}
+
+impl Path {
+    /// The path of the root, with a space of at least `space`.
+    pub fn empty(alloc: Global, space: u32) -> Result<Path, Memory>
+        ensures numbers { IfOk result (λ path. path.numbers ≡ []) }
+        ensures space { IfOk result (λ path. space ≤ path.space) }
+    {
+        let room = space as usize;
+        Ok(Path {
+            steps: Vec::with_capacity(alloc, room)?,
+            room,
+        })
+    }
+
+    /// The path of child `number` of the node at this path. It has this path's space, or one more where that is full.
+    pub fn child(&self, number: u32) -> Result<Path, Memory>
+        ensures numbers { IfOk result (λ path. path.numbers ≡ self.now.numbers ++ number ∷ []) }
+        ensures space { IfOk result (λ path. self.now.space ≤ path.space) }
+    {
+        let needed = self.steps.len() + 1;
+        let room = if needed <= self.room { self.room } else { needed };
+        let mut steps = Vec::with_capacity(*self.steps.allocator(), room)?;
+        steps.extend_from_slice(self.steps.as_slice())?;
+        steps.push(number)?;
+        Ok(Path { steps, room })
+    }
+
+    /// Makes the numbers of this path those of `other`. The space stays, and no memory is taken.
+    pub fn set(&mut self, other: &Path)
+        requires { length other.now.numbers ≤ self.old.space }
+        ensures numbers { self.new.numbers ≡ other.now.numbers }
+        ensures space { self.new.space ≡ self.old.space }
+    {
+        self.steps.clear();
+        self.steps
+            .extend_from_slice(other.steps.as_slice())
+            .unwrap();
+    }
+
+    /// Makes this path that of child `number` of the node at `parent`. The space stays, and no memory is taken.
+    pub fn set_child(&mut self, parent: &Path, number: u32)
+        requires { length parent.now.numbers < self.old.space }
+        ensures numbers { self.new.numbers ≡ parent.now.numbers ++ number ∷ [] }
+        ensures space { self.new.space ≡ self.old.space }
+    {
+        self.steps.clear();
+        self.steps
+            .extend_from_slice(parent.steps.as_slice())
+            .unwrap();
+        self.steps.push(number).unwrap();
+    }
+
+    /// The numbers of the steps, that of the root's child first.
+    pub fn numbers(&self) -> &[u32]
+        ensures value { result.now ≡ self.now.numbers }
+        ensures within { length self.now.numbers ≤ self.now.space }
+    {
+        self.steps.as_slice()
+    }
+
+    /// How many steps this path can hold without taking memory.
+    pub fn space(&self) -> usize
+        ensures { result ≡ self.now.space }
+    {
+        self.room
+    }
+}
