@@ -7,4 +7,5 @@ pub mod Optimum
 pub mod Order
 pub mod PathValue
 pub mod SearchTree
+pub mod Sets
 pub mod Tree
