@@ -1,5 +1,5 @@
 -- The fold of a bag does not depend on the order of its members.
-use Rattle.std.proofs.Common.{◌≡◌, ℕ, ◌+◌, ◌<◌, Bool, true, false, cond, List, [], ◌∷◌, ◌++◌, refl, ap, sym, ◌∙◌, arith}
+use Rattle.std.proofs.Common.{◌≡◌, ℕ, ◌<◌, Bool, true, false, cond, List, [], ◌∷◌, ◌++◌, refl, ap, sym, ◌∙◌, arith}
 use Rattle.std.specs.List.{sum_by}
 use Rattle.std.proofs.lemmas.List.Sums.{sum_by-cons, sum_by-append}
 use Rattle.yew_laws.specs.Bag.{SameBag}
@@ -63,15 +63,15 @@ module _ {S : Type 0} {fits : S → Type 0} {join : S → S → S} {none : S} (t
           let equal = bag.weighs (here x) in
           let there = split x ys (omega arith) in
           let fewer : SameBag xs (there.before ++ there.after) = record {
-                weighs = λ h.
-                    let a = bag.weighs h in
-                    let b = sum_by-cons h x xs in
-                    let c = ap (sum_by h) there.is in
-                    let d = sum_by-append h there.before (x ∷ there.after) in
-                    let e = sum_by-cons h x there.after in
-                    let f = sum_by-append h there.before there.after in
-                    omega arith;
-              }
+            weighs = λ h.
+                let a = bag.weighs h in
+                let b = sum_by-cons h x xs in
+                let c = ap (sum_by h) there.is in
+                let d = sum_by-append h there.before (x ∷ there.after) in
+                let e = sum_by-cons h x there.after in
+                let f = sum_by-append h there.before there.after in
+                omega arith;
+          }
           in
           ap (join (of x)) (fold-SameBag xs (there.before ++ there.after) fewer)
           ∙ sym (fold-middle there.before x there.after)

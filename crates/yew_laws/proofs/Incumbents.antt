@@ -1,9 +1,9 @@
 -- The best so far, as a walk in preorder keeps it.
-use Rattle.std.proofs.Common.{◌≡◌, ℕ, zero, suc, ◌+◌, ◌<◌, ◌≤◌, max, Bool, true, false, List, [], ◌∷◌, ◌++◌, map, Option, Some, None, nat_lt, ◌==◌, if◌then◌else◌, refl, ap, ap₂, sym, ◌∙◌, arith, append_assoc, append-nil, le_trans, ltb-true, ltb-false, ltb, eqb}
+use Rattle.std.proofs.Common.{◌≡◌, ℕ, suc, ◌<◌, ◌≤◌, max, true, false, List, [], ◌∷◌, ◌++◌, map, Option, Some, None, nat_lt, ◌==◌, if◌then◌else◌, refl, ap, ap₂, sym, ◌∙◌, arith, append_assoc, append-nil, le_trans, ltb-true, ltb-false}
 use Rattle.std.specs.List.{AllByRecursion}
 use Rattle.std.proofs.lemmas.List.{map-append}
 use Rattle.std.proofs.lemmas.Bool.Decides.{nat_tests}
-use Rattle.yew_laws.specs.Tree.{Member, child_member, forest, root_member, tree, prefixed, IsRanked, IsBounded}
+use Rattle.yew_laws.specs.Tree.{Member, child_member, forest, tree, prefixed, IsRanked, IsBounded}
 use Rattle.yew_laws.specs.Greatest.{greatest_of, first_with}
 use Rattle.yew_laws.specs.Incumbent.{Incumbent, improved, incumbent_after}
 use Rattle.yew_laws.proofs.Members.{AllByRecursion-map, AllByRecursion-weaker}

@@ -1,5 +1,5 @@
 -- The best members of a tree, by their worth.
-use Rattle.std.specs.Prelude.{◌≡◌, ℕ, ◌≤◌, max, List, [], ◌∷◌, Option, Some, None, Any, ◌==◌, if◌then◌else◌}
+use Rattle.std.specs.Prelude.{ℕ, ◌≤◌, max, List, [], ◌∷◌, Option, Some, None, Any, ◌==◌, if◌then◌else◌}
 use Rattle.yew_laws.specs.Tree.{Member}
 use Rattle.yew_laws.specs.SearchTree.{SearchTree, preorder}
 

@@ -1,5 +1,5 @@
 -- The best so far along a list of members.
-use Rattle.std.specs.Prelude.{◌≡◌, ℕ, List, [], ◌∷◌, Option, Some, None, nat_lt, if◌then◌else◌}
+use Rattle.std.specs.Prelude.{ℕ, List, [], ◌∷◌, Option, Some, nat_lt, if◌then◌else◌}
 use Rattle.yew_laws.specs.Tree.{Member}
 
 -- the greatest worth so far, and the first path that had it

@@ -14,8 +14,7 @@ use crate::problem::Problem;
 /// What stands on both sides of two bags cancels.
 pub fn bags_cancel<T>()
     ensures { (xs ys zs : List T) → SameBag (xs ++ zs) (ys ++ zs) → SameBag xs ys }
-{
-}
+{}
 
 /// What lies below joined lists is what lies below the one and below the other, and the same bag has the same below.
 pub fn below_joins<P: Problem>(problem: &P)

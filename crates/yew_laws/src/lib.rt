@@ -12,6 +12,8 @@ mod nodes;
 mod orders;
 mod paths;
 mod problem;
+#[cfg(test)]
+mod tests;
 
 pub use memory::Memory;
 pub use nodes::rebuild;

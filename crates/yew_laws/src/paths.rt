@@ -47,7 +47,11 @@ impl Path {
         ensures space { IfOk result (λ path. self.now.space ≤ path.space) }
     {
         let needed = self.steps.len() + 1;
-        let room = if needed <= self.room { self.room } else { needed };
+        let room = if needed <= self.room {
+            self.room
+        } else {
+            needed
+        };
         let mut steps = Vec::with_capacity(*self.steps.allocator(), room)?;
         steps.extend_from_slice(self.steps.as_slice())?;
         steps.push(number)?;

@@ -1,4 +1,4 @@
-use Rattle.std.proofs.Common.{◌≡◌, ℕ, suc, ◌∷◌, [], drop, sym, ◌∙◌, arith, add-one, Option, slice_get, MatchOption}
+use Rattle.std.proofs.Common.{◌≡◌, ◌∷◌, [], sym, ◌∙◌, arith, add-one, slice_get, MatchOption}
 use Rattle.std.proofs.lemmas.Result.{IfOk-weaker}
 use Rattle.yew_laws.proofs.Steps.{slice_get_past_drop, drop_from_drop, first_left}
 use Rattle.yew_laws.proofs.nodes.child_at.Goals as goal
