@@ -1,0 +1,5 @@
+pub mod Closing
+pub mod Growth
+pub mod Seating
+pub mod Stepping
+pub mod Ties
