@@ -1,12 +1,12 @@
 -- What the last word says of the seat that has the whole share.
-use Rattle.std.proofs.Common.{◌≡◌, ℕ, ◌<◌, ◌⊎◌, ◌∙◌, List, [], ◌∷◌, refl, sym, ap, subst, inl, inr, ⊎_elim, arith, slice_index, zero, suc}
+use Rattle.std.proofs.Common.{◌≡◌, ℕ, ◌⊎◌, ◌∙◌, List, [], ◌∷◌, sym, ap, subst, inl, inr, ⊎_elim, slice_index, zero, suc}
 use Rattle.std.specs.Prelude.{Contains}
 use mathlib.Core.Option.{some, some-injective, some-ne-none}
 use lib.ListN.{get_elem?}
 use Rattle.atomic_table.specs.Table.{State, Final, Seen}
 use Rattle.yew_best.specs.declared.view.View.{View}
-use Rattle.yew_best.specs.Rule.{IsOffered, IsBest, Keeps, Closes}
-use Rattle.yew_best.proofs.Growth.{All-map, all_offered}
+use Rattle.yew_best.specs.Rule.{IsOffered, Keeps, Closes}
+use Rattle.yew_best.proofs.Growth.{All-weaken, all_offered}
 
 index_is : (words : List ℕ) (i n : ℕ) → get_elem? words i ≡ some n → slice_index words i ≡ n
 index_is [] i n e = absurd (some-ne-none n (sym e))
@@ -24,5 +24,5 @@ closes seats seat word v words slots whole last at =
       read_below = fits.read_below;
       offered_below = fits.offered_below;
       cause = ⊎_elim inl (λ o. inr (all _ o)) is.word_cause;
-      read_cause = All-map (λ x. (x ≡ 0) ⊎ IsOffered s.views x) (λ x. (x ≡ 0) ⊎ Contains v.offered x) v.read (λ x h. ⊎_elim inl (λ o. inr (all x o)) h) fits.read_cause;
+      read_cause = All-weaken (λ x. (x ≡ 0) ⊎ IsOffered s.views x) (λ x. (x ≡ 0) ⊎ Contains v.offered x) v.read (λ x h. ⊎_elim inl (λ o. inr (all x o)) h) fits.read_cause;
     }

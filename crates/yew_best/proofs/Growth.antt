@@ -1,6 +1,6 @@
 -- What was offered stays offered while views change, and so does what the rule says of a seat.
-use Rattle.std.proofs.Common.{◌≡◌, ℕ, ◌<◌, ◌≤◌, ◌≢◌, ◌⊎◌, ◌∙◌, List, [], ◌∷◌, ◌++◌, get_or, set, refl, sym, subst, inl, inr, ⊎_elim, le_trans, arith, zero, suc}
-use Rattle.std.specs.Prelude.{All, Contains, sum_by}
+use Rattle.std.proofs.Common.{◌≡◌, ℕ, ◌<◌, ◌≤◌, ◌⊎◌, ◌∙◌, List, [], ◌∷◌, ◌++◌, get_or, set, refl, sym, subst, inl, inr, ⊎_elim, le_trans, arith, zero, suc}
+use Rattle.std.specs.Prelude.{All, Contains}
 use Rattle.std.proofs.lemmas.List.Elements.{Contains-append_right}
 use mathlib.Core.Option.{some, some-injective}
 use native.Mathlib.Decide.{ℕ_discrete}
@@ -13,8 +13,8 @@ pub All-single : {X : Type 0} (P : X → Type 0) (x : X) → P x → All P (x �
 All-single P x p zero d h = p
 All-single P x p (suc k) d h = absurd (omega arith)
 
-pub All-map : {X : Type 0} (P Q : X → Type 0) (xs : List X) → ((x : X) → P x → Q x) → All P xs → All Q xs
-All-map P Q xs f a k d h = f (get_or xs k d) (a k d h)
+pub All-weaken : {X : Type 0} (P Q : X → Type 0) (xs : List X) → ((x : X) → P x → Q x) → All P xs → All Q xs
+All-weaken P Q xs f a k d h = f (get_or xs k d) (a k d h)
 
 pub Contains-last : {X : Type 0} (xs : List X) (x : X) → Contains (xs ++ x ∷ []) x
 Contains-last xs x = Contains-append_right xs (x ∷ []) x (0, omega arith, refl)
@@ -44,9 +44,9 @@ cause_later x views later grows = ⊎_elim inl (λ o. inr (grows x o))
 pub fits_later : (seats : ℕ) (views later : List View) (n m : ℕ) (v : View) → Grows views later → n ≤ m → Fits seats views n v → Fits seats later m v
 fits_later seats views later n m v grows up fits = record {
   whole = fits.whole;
-  read_below = All-map (λ x. x ≤ n) (λ x. x ≤ m) v.read (λ x h. le_trans h up) fits.read_below;
-  offered_below = All-map (λ x. x ≤ n) (λ x. x ≤ m) v.offered (λ x h. le_trans h up) fits.offered_below;
-  read_cause = All-map (λ x. (x ≡ 0) ⊎ IsOffered views x) (λ x. (x ≡ 0) ⊎ IsOffered later x) v.read (λ x h. cause_later x views later grows h) fits.read_cause;
+  read_below = All-weaken (λ x. x ≤ n) (λ x. x ≤ m) v.read (λ x h. le_trans h up) fits.read_below;
+  offered_below = All-weaken (λ x. x ≤ n) (λ x. x ≤ m) v.offered (λ x h. le_trans h up) fits.offered_below;
+  read_cause = All-weaken (λ x. (x ≡ 0) ⊎ IsOffered views x) (λ x. (x ≡ 0) ⊎ IsOffered later x) v.read (λ x h. cause_later x views later grows h) fits.read_cause;
   idle = fits.idle;
 }
 

@@ -19,24 +19,25 @@ fn two_seats_see_one_word(rt: HostRuntime) -> Result<(), Fail> {
     Ok(())
 }
 
-// An equal key, the least key above the word, and both ends of the type.
+// A key below, at and above the word, up to both ends of the type.
 #[test]
 fn the_word_never_falls(rt: HostRuntime) -> Result<(), Fail> {
-    let (best, mut seat) = Best::new(rt.alloc(), 1)?;
-    for (key, before, after) in [
+    for (first, key, last) in [
         (0, 0, 0),
-        (7, 0, 7),
+        (0, 1, 1),
+        (7, 6, 7),
         (7, 7, 7),
-        (8, 7, 8),
-        (0, 8, 8),
-        (u64::MAX, 8, u64::MAX),
+        (7, 8, 8),
+        (7, u64::MAX, u64::MAX),
+        (u64::MAX, 7, u64::MAX),
         (u64::MAX, u64::MAX, u64::MAX),
-        (1, u64::MAX, u64::MAX),
     ] {
-        assert_eq!(rt; best.raise(&mut seat, key), before, "before {key}");
-        assert_eq!(rt; best.read(&mut seat), after, "after {key}");
+        let (best, mut seat) = Best::new(rt.alloc(), 1)?;
+        assert_eq!(rt; best.raise(&mut seat, first), 0, "{first}");
+        assert_eq!(rt; best.raise(&mut seat, key), first, "{first} and {key}");
+        assert_eq!(rt; best.read(&mut seat), last, "{first} and {key}");
+        assert_eq!(rt; best.close(seat), last, "{first} and {key}");
     }
-    assert_eq!(rt; best.close(seat), u64::MAX);
     Ok(())
 }
 
