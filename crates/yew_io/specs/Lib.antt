@@ -1,0 +1,6 @@
+pub mod Faults
+pub mod MemoryShelf
+pub mod MemorySink
+pub mod Reading
+pub mod Shelf
+pub mod Sink
