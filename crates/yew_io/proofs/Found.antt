@@ -1,5 +1,5 @@
 -- The files of a shelf in memory, by their index.
-use Rattle.std.proofs.Common.{◌≡◌, ◌<◌, ◌≤◌, ℕ, zero, suc, List, [], ◌∷◌, length, get_or, take, drop, min, true, false, Option, Some, None, IfSome, IsSome, is_some, is_none, ◌&&◌, String, Vec, string_bytes, option_map, option_copied, refl, sym, ◌∙◌, ap, subst, arith, Bor, Contains, Bool, ◌-◌, ◌+◌, length-drop}
+use Rattle.std.proofs.Common.{◌≡◌, ◌<◌, ℕ, zero, suc, List, [], ◌∷◌, length, get_or, take, drop, true, false, Option, Some, None, IsSome, is_some, is_none, ◌&&◌, String, Vec, string_bytes, option_copied, refl, sym, ◌∙◌, ap, subst, arith, Bor, Contains, Bool, ◌-◌, length-drop}
 use Rattle.std.proofs.lemmas.List.{length-map, take_all}
 use Rattle.std.specs.declared.alloc.Global.{Global}
 use Rattle.std.specs.Str.{bytes_eq}

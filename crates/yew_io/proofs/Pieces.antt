@@ -1,12 +1,11 @@
 -- Files that are read, and texts that are written, piece by piece.
-use Rattle.std.proofs.Common.{◌≡◌, ◌<◌, ◌≤◌, ℕ, List, [], ◌++◌, ◌+◌, ◌-◌, length, take, drop, Option, Some, None, IfSome, IsSomeAnd, Result, Vec, Ok, Err, vec_len, refl, sym, ◌∙◌, ap, subst, inl, inr, arith, append_assoc, length-append, length-drop}
+use Rattle.std.proofs.Common.{◌≡◌, ◌<◌, ◌≤◌, ℕ, List, [], ◌++◌, ◌+◌, ◌-◌, length, take, drop, Option, Some, None, IfSome, IsSomeAnd, Vec, Ok, Err, refl, sym, ◌∙◌, ap, subst, inl, inr, arith, append_assoc, length-append, length-drop}
 use Rattle.std.proofs.lemmas.List.{append-nil, take_all}
 use lib.Seq.{take-add}
 use Rattle.std.specs.declared.alloc.Global.{Global}
 use Rattle.yew_io.specs.Shelf.{File, bytes_of, Opens, Gives, IsAtEnd}
 use Rattle.yew_io.specs.Sink.{Appends}
 use Rattle.yew_io.specs.Reading.{IsWhole, IsLonger, Answers, IsAnswer}
-use Rattle.yew_io.specs.declared.reading.ReadEnd.{ReadEnd}
 use Rattle.yew_io.specs.declared.reading.ReadEnd.TheVariants.{TooLong, Memory}
 
 -- the file of that name is these bytes, and then what is left

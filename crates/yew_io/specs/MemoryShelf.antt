@@ -1,5 +1,5 @@
 -- What a shelf in memory is seen as.
-use Rattle.std.specs.Prelude.{ℕ, ◌+◌, ◌<◌, ◌≤◌, List, [], length, map, drop, slice_index_or, Bool, Option, String, Vec, string_bytes}
+use Rattle.std.specs.Prelude.{ℕ, ◌<◌, ◌≤◌, List, [], length, map, slice_index_or, Bool, Option, String, Vec, string_bytes}
 use Rattle.std.specs.declared.alloc.Global.{Global}
 use Rattle.yew_io.specs.Shelf.{File}
 

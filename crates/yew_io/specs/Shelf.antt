@@ -1,5 +1,5 @@
 -- What the calls of a shelf of files do, where the shelf tells its files.
-use Rattle.std.specs.Prelude.{◌≡◌, ℕ, List, [], ◌∷◌, ◌++◌, Option, Some, None, IsSomeAnd, IfSome, ⊤, if◌then◌else◌, bytes_eq}
+use Rattle.std.specs.Prelude.{◌≡◌, ℕ, List, [], ◌∷◌, ◌++◌, Option, Some, None, IsSomeAnd, IfSome, if◌then◌else◌, bytes_eq}
 
 -- a file: the bytes of its name, and its bytes
 pub record File : Type 0 where

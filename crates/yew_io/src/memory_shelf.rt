@@ -30,13 +30,13 @@ impl<'a> Model for MemoryShelf<'a> {
     ghost Value = { ShelfState };
 
     ghost view = { λ s. record {
-        files = files_of s.files.items;
-        fails = s.fails.items;
-        calls = s.calls;
-        faults = s.faults;
-        name = option_copied s.name;
-        left = option_map (λ place. drop place.at (bytes_at (files_of s.files.items) place.file)) s.place;
-        failed = is_some s.name && is_none s.place
+      files = files_of s.files.items;
+      fails = s.fails.items;
+      calls = s.calls;
+      faults = s.faults;
+      name = option_copied s.name;
+      left = option_map (λ place. drop place.at (bytes_at (files_of s.files.items) place.file)) s.place;
+      failed = is_some s.name && is_none s.place;
     } };
 
     ghost invariant = { λ s. IfSome s.place (λ place. IsPlace (files_of s.files.items) place.file place.at) };
@@ -108,7 +108,10 @@ impl<'a> Shelf<'a> for MemoryShelf<'a> {
             Some(place) if !fails => {
                 let count = copy_front(&self.files[place.file].1[place.at..], buf);
                 let at = place.at + count;
-                self.place = Some(Place { file: place.file, at });
+                self.place = Some(Place {
+                    file: place.file,
+                    at,
+                });
                 Ok(count)
             }
             _ => {

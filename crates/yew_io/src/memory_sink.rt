@@ -34,7 +34,12 @@ impl MemorySink {
 
     /// An empty sink that takes `room` bytes in all, and at most `most` in one call. A call fails exactly where its
     /// number is in `fails`, or where it is handed a piece that is not empty and the room is used up.
-    pub fn new(alloc: Global, room: usize, most: usize, fails: Vec<u64>) -> Result<MemorySink, Memory>
+    pub fn new(
+        alloc: Global,
+        room: usize,
+        most: usize,
+        fails: Vec<u64>,
+    ) -> Result<MemorySink, Memory>
         requires { 0 < most }
         ensures { IfOk result (λ sink. sink ≡ record { written = []; room = room; most = most; fails = fails.items; calls = 0; faults = 0 }) }
     {

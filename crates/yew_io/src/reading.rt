@@ -27,7 +27,12 @@ const FIRST_PIECE: usize = 1 << 16;
 ///
 /// `TooLong` comes exactly where more than `limit` bytes were read without a fault, and `Fault` exactly where the
 /// shelf's last call failed.
-pub fn read_all<'a, S: Shelf<'a>>(alloc: Global, shelf: &mut S, name: &'a str, limit: u64) -> Result<Vec<u8>, ReadEnd>
+pub fn read_all<'a, S: Shelf<'a>>(
+    alloc: Global,
+    shelf: &mut S,
+    name: &'a str,
+    limit: u64,
+) -> Result<Vec<u8>, ReadEnd>
     requires { limit ≤ 2 ^ 24 }
     ensures whole { IfOk result (λ bytes. IsWhole (S.files shelf.old) name.now bytes.items) }
     ensures within { IfOk result (λ bytes. vec_len bytes ≤ limit) }
@@ -81,7 +86,11 @@ fn make_room(bytes: &mut Vec<u8>, len: usize, most: usize) -> Result<(), AllocEr
 }
 
 // One read into the buffer, after the bytes that it holds of the file.
-fn read_piece<'a, S: Shelf<'a>>(shelf: &mut S, bytes: &mut Vec<u8>, len: usize) -> Result<usize, Failed>
+fn read_piece<'a, S: Shelf<'a>>(
+    shelf: &mut S,
+    bytes: &mut Vec<u8>,
+    len: usize,
+) -> Result<usize, Failed>
     requires room { len < vec_len bytes.old }
     requires opened { IsSome (S.name shelf.old) }
     requires whole { S.failed shelf.old ≡ false }

@@ -5,7 +5,11 @@ use std::test::Fail;
 
 const TEXT: &[u8] = b"yes\nmap 1 0 2\n";
 
-fn shelf_of(alloc: Global, files: &[(&str, &[u8])], fails: &[u64]) -> Result<MemoryShelf<'static>, AllocError> {
+fn shelf_of(
+    alloc: Global,
+    files: &[(&str, &[u8])],
+    fails: &[u64],
+) -> Result<MemoryShelf<'static>, AllocError> {
     let mut pairs = Vec::new(alloc);
     for (name, bytes) in files {
         pairs.push((String::from_str(alloc, name)?, bytes.to_vec(alloc)?))?;
@@ -16,16 +20,31 @@ fn shelf_of(alloc: Global, files: &[(&str, &[u8])], fails: &[u64]) -> Result<Mem
 #[test]
 fn a_file_is_read_up_to_the_limit(rt: HostRuntime) -> Result<(), Fail> {
     let alloc = rt.alloc();
-    let mut shelf = shelf_of(alloc, &[("k2", b"0 5\n"), ("empty", b""), ("k2", b"1")], &[])?;
+    let mut shelf = shelf_of(
+        alloc,
+        &[("k2", b"0 5\n"), ("empty", b""), ("k2", b"1")],
+        &[],
+    )?;
     for limit in [4, 5, 1 << 24] {
-        let bytes = read_all(alloc, &mut shelf, "k2", limit).ok().ok_or("whole")?;
+        let bytes = read_all(alloc, &mut shelf, "k2", limit)
+            .ok()
+            .ok_or("whole")?;
         assert_eq!(rt; bytes.as_slice(), b"0 5\n".as_slice(), "at {limit}");
     }
-    assert_eq!(rt; read_all(alloc, &mut shelf, "k2", 3).err(), Some(ReadEnd::TooLong));
-    assert_eq!(rt; read_all(alloc, &mut shelf, "k2", 0).err(), Some(ReadEnd::TooLong));
+    assert_eq!(rt;
+        read_all(alloc, &mut shelf, "k2", 3).err(),
+        Some(ReadEnd::TooLong)
+    );
+    assert_eq!(rt;
+        read_all(alloc, &mut shelf, "k2", 0).err(),
+        Some(ReadEnd::TooLong)
+    );
     let bytes = read_all(alloc, &mut shelf, "empty", 0).ok().ok_or("empty")?;
     assert_eq!(rt; bytes.len(), 0);
-    assert_eq!(rt; read_all(alloc, &mut shelf, "k3", 4).err(), Some(ReadEnd::Fault));
+    assert_eq!(rt;
+        read_all(alloc, &mut shelf, "k3", 4).err(),
+        Some(ReadEnd::Fault)
+    );
     Ok(())
 }
 
@@ -68,7 +87,10 @@ fn each_call_fails_in_turn(rt: HostRuntime) -> Result<(), Fail> {
     }
     let mut shelf = shelf_of(alloc, &[("k1", b"3 10\n")], &[4])?;
     assert!(rt; read_all(alloc, &mut shelf, "k1", 100).is_ok());
-    assert_eq!(rt; read_all(alloc, &mut shelf, "k1", 100).err(), Some(ReadEnd::Fault));
+    assert_eq!(rt;
+        read_all(alloc, &mut shelf, "k1", 100).err(),
+        Some(ReadEnd::Fault)
+    );
     Ok(())
 }
 
@@ -91,7 +113,9 @@ fn a_shelf_has_one_open_file(rt: HostRuntime) -> Result<(), Fail> {
 #[test]
 fn a_sink_takes_what_it_has_room_for(rt: HostRuntime) -> Result<(), Fail> {
     let alloc = rt.alloc();
-    let mut sink = MemorySink::new(alloc, 8, 4, Vec::new(alloc)).ok().ok_or("memory")?;
+    let mut sink = MemorySink::new(alloc, 8, 4, Vec::new(alloc))
+        .ok()
+        .ok_or("memory")?;
     assert_eq!(rt; sink.written().len(), 0);
     assert_eq!(rt; sink.write(b"best 90"), Ok(4));
     assert_eq!(rt; sink.write(b"  90"), Ok(4));
@@ -105,7 +129,9 @@ fn a_sink_takes_what_it_has_room_for(rt: HostRuntime) -> Result<(), Fail> {
 fn a_text_is_written_whole_or_to_the_fault(rt: HostRuntime) -> Result<(), Fail> {
     let alloc = rt.alloc();
     for most in 1..16 {
-        let mut sink = MemorySink::new(alloc, 100, most, Vec::new(alloc)).ok().ok_or("memory")?;
+        let mut sink = MemorySink::new(alloc, 100, most, Vec::new(alloc))
+            .ok()
+            .ok_or("memory")?;
         assert_eq!(rt; write_whole(&mut sink, TEXT), Ok(()));
         assert_eq!(rt; write_whole(&mut sink, b""), Ok(()));
         assert_eq!(rt; sink.written(), TEXT, "{most} a call");
@@ -119,7 +145,9 @@ fn a_text_is_written_whole_or_to_the_fault(rt: HostRuntime) -> Result<(), Fail> 
         let taken = TEXT.len().min(4 * (call as usize - 1));
         assert_eq!(rt; sink.written(), &TEXT[..taken], "call {call}");
     }
-    let mut full = MemorySink::new(alloc, 6, 4, Vec::new(alloc)).ok().ok_or("memory")?;
+    let mut full = MemorySink::new(alloc, 6, 4, Vec::new(alloc))
+        .ok()
+        .ok_or("memory")?;
     assert_eq!(rt; write_whole(&mut full, TEXT), Err(Failed));
     assert_eq!(rt; full.written(), b"yes\nma".as_slice());
     Ok(())
@@ -146,7 +174,9 @@ impl Sink for Lengths {
 
 #[test]
 fn each_call_is_handed_all_that_is_left(rt: HostRuntime) -> Result<(), Fail> {
-    let mut sink = Lengths { handed: Vec::new(rt.alloc()) };
+    let mut sink = Lengths {
+        handed: Vec::new(rt.alloc()),
+    };
     assert_eq!(rt; write_whole(&mut sink, b"1234567"), Ok(()));
     assert_eq!(rt; sink.handed.as_slice(), [7, 5, 3, 1].as_slice());
     Ok(())
