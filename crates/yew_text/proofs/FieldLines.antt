@@ -1,5 +1,5 @@
 -- The fields of a text by its first bytes.
-use Rattle.std.proofs.Common.{◌≡◌, ℕ, suc, ◌+◌, Bool, true, cond, List, [], ◌∷◌, ◌++◌, drop, refl, sym, ap, ◌∙◌, arith, inl, inr}
+use Rattle.std.proofs.Common.{◌≡◌, ℕ, suc, ◌+◌, Bool, cond, List, [], ◌∷◌, ◌++◌, drop, refl, sym, ap, ◌∙◌, arith, inl, inr}
 use Rattle.std.specs.Prelude.{◌&&◌, IsTrue, IsFalse, flat_map}
 use Rattle.std.specs.List.{list_all, slice_split, onto_first, prefix_len}
 use Rattle.std.proofs.lemmas.Bool.{cases_Bool}

@@ -1,15 +1,15 @@
 -- The next word and the next field, by how much stands in front.
-use Rattle.std.proofs.Common.{◌≡◌, ℕ, suc, ◌+◌, ◌-◌, ◌<◌, ◌≤◌, Bool, false, not, cond, List, [], ◌∷◌, ◌++◌, length, take, drop, get_or, refl, sym, ap, subst, ◌∙◌, arith, inl, inr, one-add, drop-cons}
-use Rattle.std.specs.Prelude.{IsTrue, IsFalse, count_by, flat_map}
+use Rattle.std.proofs.Common.{◌≡◌, ℕ, suc, ◌+◌, ◌-◌, ◌<◌, ◌≤◌, Bool, not, cond, List, [], ◌∷◌, ◌++◌, length, take, drop, get_or, refl, sym, ap, subst, ◌∙◌, arith, inl, inr, one-add, drop-cons}
+use Rattle.std.specs.Prelude.{IsTrue, IsFalse, count_by}
 use Rattle.std.specs.List.{AllByRecursion, prefix_len, list_all}
 use Rattle.std.proofs.lemmas.Bool.{cases_Bool, not-true, not-false, eqb-true}
 use mir.Val.{bool_byte}
 use Rattle.std.proofs.lemmas.List.{append-nil, take-append-drop, drop-drop, length-drop, length-take-le}
 use Rattle.std.proofs.lemmas.List.Sums.{sum_by-cons, sum_by-append, prefix_len-le-length}
 use Rattle.std.proofs.Math.Seq.{take-length, take-add}
-use Rattle.yew_text.specs.Words.{is_white, is_newline, Line, lines_from, words_in, words_from, numbered}
-use Rattle.yew_text.specs.Fields.{trim_start, TextField, field_at, field_of, FieldAt, fields_in, fields_from}
-use Rattle.yew_text.specs.Position.{Position, IsPosition, position_in, bytes_left, lines_left, fields_left}
+use Rattle.yew_text.specs.Words.{is_white, is_newline, Line, lines_from, words_from, numbered}
+use Rattle.yew_text.specs.Fields.{trim_start, TextField, field_at, field_of, fields_from}
+use Rattle.yew_text.specs.Position.{Position, IsPosition, position_in, lines_left}
 use Rattle.yew_text.specs.Reading.{in_word, in_line, FindsWord, FindsField, AreBehind, SkipsWhite}
 use Rattle.yew_text.specs.Laws.{EndsWord, HasNoNewline}
 use Rattle.yew_text.proofs.Splitting.{has_first, newline_white, none_newline, word_laws}

@@ -1,5 +1,5 @@
 -- One reading of a cursor is one step of the reading of a file that is a list of numbers.
-use Rattle.std.proofs.Common.{◌≡◌, ℕ, suc, ◌<◌, ◌≤◌, leb, ltb, List, [], ◌∷◌, ◌++◌, Result, Ok, Err, refl, sym, ap, subst, ◌∙◌, arith, inl, inr}
+use Rattle.std.proofs.Common.{◌≡◌, ℕ, suc, ◌<◌, ◌≤◌, leb, List, [], ◌∷◌, ◌++◌, Result, Ok, Err, refl, sym, ap, subst, ◌∙◌, arith, inl, inr}
 use Rattle.std.specs.Prelude.{IsTrue}
 use Rattle.std.proofs.lemmas.Bool.{cases_Bool, le-ltb, leb-true, leb-false}
 use Rattle.yew_text.specs.declared.text.TextKind.TheVariants.{TooBig, EndsEarly, Surplus}
@@ -8,7 +8,7 @@ use Rattle.yew_text.specs.Words.{TextWord, words_of, end_line}
 use Rattle.yew_text.specs.Numbers.{is_digits, value_of, greatest, IsNumber, Fault, number_in, first_number}
 use Rattle.yew_text.specs.Position.{Position, start_of, words_left, SameText}
 use Rattle.yew_text.specs.Reading.{text_fault, TakesNumber, IsSurplus}
-use Rattle.yew_text.specs.Grammar.{Due, DueBelow, DueEnd, due_number, Shape, HasBound, IsBounded, HasOffence, IsWhole, Says, read_end, read_word, read_on, read_from, reading}
+use Rattle.yew_text.specs.Grammar.{Due, DueBelow, DueEnd, due_number, Shape, IsBounded, HasOffence, IsWhole, Says, read_end, read_word, read_on, read_from, reading}
 use Rattle.yew_text.proofs.Readings.{number_taken, read_says}
 
 -- the answer that is this fault

@@ -7,7 +7,7 @@ use Rattle.yew_text.specs.declared.text.Field.{Field}
 use Rattle.yew_text.specs.declared.text.TextFault.{TextFault}
 use Rattle.yew_text.specs.Words.{is_white, is_newline, Line, TextWord, words_in, end_line}
 use Rattle.yew_text.specs.Numbers.{Fault, first_number}
-use Rattle.yew_text.specs.Fields.{TextField, FieldAt, fields_in}
+use Rattle.yew_text.specs.Fields.{TextField, fields_in}
 use Rattle.yew_text.specs.Position.{Position, IsPosition, moved, bytes_left, lines_left, words_left, fields_left}
 
 -- a byte of a word, and a byte of a line

@@ -99,7 +99,8 @@ impl<'a> Cursor<'a> {
 
     /// The line of the place reached, from 1: after a word or a number was read, the line of that word.
     pub fn line(&self) -> u64
-        ensures { result ≡ self.now.line }
+        ensures value { result ≡ self.now.line }
+        ensures reached { IsPosition self.now }
     {
         self.line
     }
