@@ -1,0 +1,12 @@
+pub mod Names
+pub mod GivenOnes
+pub mod Steps
+pub mod Sound
+pub mod Whole
+pub mod Answer
+pub mod Numbers
+pub mod KeptOnes
+pub mod Reading
+pub mod HeadWords
+pub mod MadePlans
+pub mod Rows

@@ -1,0 +1,120 @@
+-- How a reader keeps the options that were given: a place for each, with its value.
+use Rattle.std.specs.Prelude.{◌≡◌, ◌≢◌, ℕ, suc, ◌<◌, ◌^◌, Bool, false, List, [], ◌∷◌, ◌++◌, length, flat_map, Option, Some, None, IsTrue, IsFalse, is_some, option_map, slice_index_or, bytes_eq, codes}
+use Rattle.std.specs.Option.{option_to_list}
+use Rattle.yew_words.specs.declared.plan.UsageKind.{UsageKind}
+use Rattle.yew_words.specs.declared.plan.UsageKind.TheVariants.{Missing, Unknown, NotHere, Repeated}
+use Rattle.yew_words.specs.declared.table.Head.{Head}
+use Rattle.yew_words.specs.declared.table.OptionName.{OptionName}
+use Rattle.yew_words.specs.declared.table.OptionName.TheVariants as options
+use Rattle.yew_words.specs.declared.table.Takes.{Takes}
+use Rattle.yew_words.specs.declared.table.Takes.TheVariants as takings
+use Rattle.yew_words.specs.declared.value.Value.{Value}
+use Rattle.yew_words.specs.declared.value.Value.TheVariants.{Nothing, OneOrAll, Number}
+use Rattle.yew_words.specs.declared.settings.Settings.{Settings}
+use Rattle.yew_words.specs.Word.{Word, number_of}
+use Rattle.yew_words.specs.Table.{option_word, takes, is_for}
+use Rattle.yew_words.specs.Plans.{Setting, setting_words, IsValue, setting_of, is_given, AreSettings, AreFiles, HasRequired}
+use Rattle.yew_words.specs.Offences.{DueOption, words_before, IsBadValue, Offending}
+
+-- what is kept of a value's word, where this is due
+abbrev pub kept_as : Takes → Option Word → Value
+kept_as takings.OneOrAll (Some word) = OneOrAll (bytes_eq word (codes "all"))
+kept_as (takings.Number low high) (Some word) = Number (number_of word)
+kept_as _ _ = Nothing
+
+abbrev pub kept_of : Head → Setting → Value
+kept_of head s = kept_as (takes head s.name) s.value
+
+-- the place of an option
+abbrev pub index_of : OptionName → ℕ
+index_of options.Workers = 0
+index_of options.Depth = 1
+index_of options.Budget = 2
+index_of options.Chunk = 3
+index_of options.Target = 4
+index_of options.Genus = 5
+index_of options.Report = 6
+index_of options.Audit = 7
+index_of options.Seed = 8
+index_of options.Size = 9
+index_of options.Solve = 10
+
+-- what is kept at an option's place
+abbrev pub kept_at : Settings → OptionName → Option Value
+kept_at settings name = slice_index_or settings.values (index_of name) None
+
+-- the number there
+abbrev pub kept_number : Option Value → Option ℕ
+kept_number (Some (Number number)) = Some number
+kept_number _ = None
+
+-- whether it is the word `all`
+abbrev pub kept_all : Option Value → Bool
+kept_all (Some (OneOrAll all)) = all
+kept_all _ = false
+
+-- The settings of these first words are what is kept.
+abbrev pub Keeps : Head → Settings → List Setting → Type 0
+Keeps head settings given = (name : OptionName) → kept_at settings name ≡ option_map (kept_of head) (setting_of name given)
+
+-- What is kept are the settings of a command line with these first words.
+pub record AreKept (head : Head) (settings : Settings) : Type 0 where
+  pub given : List Setting
+  pub are_settings : AreSettings head given
+  pub keeps : Keeps head settings given
+
+-- a value that 32 bits can hold
+abbrev pub IsNarrow : Takes → Type 0
+IsNarrow (takings.Number low high) = high < 2 ^ 32
+IsNarrow _ = Unit {0}
+
+-- The word names an option that is for these first words and was not given before.
+pub record NamesOption (head : Head) (settings : Settings) (word : Word) (name : OptionName) : Type 0 where
+  pub word_is : word ≡ option_word name
+  pub is_for_head : IsTrue (is_for head name)
+  pub is_new : IsFalse (is_some (kept_at settings name))
+
+-- The word may not stand where an option's name is due.
+abbrev pub RefusesName : Head → Settings → Word → UsageKind → Type 0
+RefusesName head settings word Unknown = (name : OptionName) → word ≢ option_word name
+RefusesName head settings word NotHere = (name : OptionName) × (word ≡ option_word name) × IsFalse (is_for head name)
+RefusesName head settings word Repeated = (name : OptionName) × (word ≡ option_word name) × IsTrue (is_for head name) × IsTrue (is_some (kept_at settings name))
+RefusesName head settings word _ = ⊥
+
+-- The words begin with the value that is due, or nothing is due.
+pub record TakesValue (taking : Takes) (words : List Word) (value : Value) (rest : List Word) : Type 0 where
+  pub word : Option Word
+  pub is_value : IsValue taking word
+  pub words_are : words ≡ option_to_list word ++ rest
+  pub value_is : value ≡ kept_as taking word
+
+-- A value is due and the words begin with none.
+abbrev pub RefusesValue : Takes → List Word → UsageKind → Type 0
+RefusesValue taking [] kind = (kind ≡ Missing) × (taking ≢ takings.Nothing)
+RefusesValue taking (word ∷ words) kind = IsBadValue taking word kind
+
+-- Behind these settings the words go on with this one more.
+pub record GoesOn (head : Head) (given : List Setting) (words : List Word) (name : OptionName) (value : Value) (rest : List Word) : Type 0 where
+  pub setting : Setting
+  pub are_settings : AreSettings head (given ++ setting ∷ [])
+  pub words_are : words ≡ setting_words setting ++ rest
+  pub is_new : IsFalse (is_given given setting.name)
+  pub name_is : name ≡ setting.name
+  pub value_is : value ≡ kept_of head setting
+
+-- The words begin with an option that may stand behind those that are kept.
+abbrev pub TakesSetting : Head → Settings → List Word → OptionName → Value → List Word → Type 0
+TakesSetting head settings words name value rest = (given : List Setting) → AreSettings head given → Keeps head settings given → GoesOn head given words name value rest
+
+-- The words, the first of them at the place `at`, begin with an option that may not stand behind those that are kept.
+abbrev pub RefusesSetting : Head → Settings → ℕ → List Word → ℕ → UsageKind → Type 0
+RefusesSetting head settings at words place kind = (files : List Word) (given : List Setting) → AreFiles head files → AreSettings head given → Keeps head settings given
+  → at ≡ suc (length (words_before (DueOption head files given))) → Offending (words_before (DueOption head files given) ++ words) place kind
+
+-- The words are options in order, none that is required is absent, and they are what is kept.
+pub record ReadsSettings (head : Head) (words : List Word) (settings : Settings) : Type 0 where
+  pub given : List Setting
+  pub words_are : words ≡ flat_map setting_words given
+  pub are_settings : AreSettings head given
+  pub has_required : HasRequired head given
+  pub keeps : Keeps head settings given

@@ -1,0 +1,104 @@
+//! What a command line asks for, or what is wrong with it.
+
+use thiserror::Error;
+
+/// What is made by the job `make`.
+#[derive(Clone, Copy, Debug, PartialEq, Eq)]
+pub enum Made {
+    /// A knapsack instance.
+    Knapsack,
+    /// A matrix of city distances in TSPLIB 95's form.
+    Tsp,
+    /// A graph in the LAD form.
+    Lad,
+}
+
+/// What is done.
+#[derive(Clone, Copy, Debug, PartialEq, Eq)]
+pub enum Job {
+    /// The 0/1 knapsack problem.
+    Knapsack,
+    /// The travelling salesperson problem.
+    Tsp,
+    /// The search of a pattern graph in a target graph.
+    Subgraph,
+    /// The count of numerical semigroups by genus.
+    Semigroups,
+    /// A workload is made, and no file is read.
+    Make(Made),
+}
+
+/// How a tree is searched (Archibald et al., "YewPar: skeletons for exact combinatorial search", PPoPP 2020).
+#[derive(Clone, Copy, Debug, PartialEq, Eq)]
+pub enum Skeleton {
+    /// One worker, in preorder.
+    Sequential,
+    /// Every node above this depth becomes a task: 1 to 255.
+    Depth(u32),
+    /// A task spawns after this many backtracks: 1 to 2^32-1.
+    Budget(u64),
+    /// Idle workers steal the nearest child to the root, or with `all` every one there.
+    Steal {
+        /// Whether all children of the level are given.
+        all: bool,
+    },
+    /// The tasks of this depth, 1 to 255, are taken in preorder.
+    Ordered(u32),
+}
+
+/// What the words ask for. A field that the words do not concern is empty, `None`, 0 or false; `workers` is then 1
+/// and `skeleton` is `Sequential`.
+#[derive(Clone, Copy, Debug)]
+pub struct Plan<'a> {
+    /// What is done.
+    pub job: Job,
+    /// How the tree is searched.
+    pub skeleton: Skeleton,
+    /// The files' names: a part of the words that were read.
+    pub files: &'a [String],
+    /// The number of workers: 1 to 64.
+    pub workers: u32,
+    /// The least profit that a knapsack is to reach, at most 2^40-2; `None` asks for the greatest profit.
+    pub target: Option<u64>,
+    /// The greatest genus that is counted: at most 40.
+    pub genus: u32,
+    /// Whether the audit is written.
+    pub audit: bool,
+    /// Whether the report is written.
+    pub report: bool,
+    /// The seed of what is made.
+    pub seed: u64,
+    /// The number of items, cities or vertices that are made.
+    pub size: u32,
+    /// Whether what is made is solved too.
+    pub solve: bool,
+}
+
+/// What is wrong with a word.
+#[derive(Clone, Copy, Debug, PartialEq, Eq)]
+pub enum UsageKind {
+    /// A word must stand at this place, and the words have ended.
+    Missing,
+    /// The word is none of those that may stand at its place.
+    Unknown,
+    /// A file name must stand here, and the word is empty or begins with `-`.
+    NotFile,
+    /// The option is for this job and skeleton, and was given before.
+    Repeated,
+    /// A number must stand here, and the word is not spelled as one.
+    NotNumber,
+    /// The number is outside its range.
+    OutOfRange,
+    /// The option is not for this job and skeleton.
+    NotHere,
+}
+
+/// The first offending word of a faulty command line.
+#[derive(Clone, Copy, Debug, PartialEq, Eq, Error)]
+#[error("Usage")]
+pub struct Usage {
+    /// The place of the word, counted from 1. Where a word is missing it is the number of words plus 1.
+    pub place: u32,
+    /// What is wrong with it.
+    pub kind: UsageKind,
+}
