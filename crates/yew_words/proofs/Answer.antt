@@ -7,7 +7,7 @@ use Rattle.yew_words.specs.declared.plan.Plan.{Plan}
 use Rattle.yew_words.specs.declared.plan.Usage.{Usage}
 use Rattle.yew_words.specs.Plans.{Planned, planned, PlanOf}
 use Rattle.yew_words.specs.Offences.{Offending}
-use Rattle.yew_words.specs.Judge.{Fault, judge}
+use Rattle.yew_words.proofs.Judge.{Fault, judge}
 use Rattle.yew_words.specs.Laws.{HasOneAnswer}
 use Rattle.yew_words.proofs.Steps.{ok_is, err_is, ok_err, err_ok}
 use Rattle.yew_words.proofs.Sound.{Answers, judge_answers}

@@ -8,7 +8,8 @@ use Rattle.yew_words.specs.declared.table.Coordination.{Coordination}
 use Rattle.yew_words.specs.Word.{Word, texts}
 use Rattle.yew_words.specs.Table.{problem_word, coordination_word}
 use Rattle.yew_words.specs.Offences.{DueSkeleton, Offending}
-use Rattle.yew_words.specs.Judge.{named, every_problem, every_coordination, after_coordination}
+use Rattle.yew_words.specs.Table.{named, every_problem, every_coordination}
+use Rattle.yew_words.proofs.Judge.{after_coordination}
 use Rattle.yew_words.proofs.Names.{named_is}
 use Rattle.yew_words.proofs.Steps.{after_fault}
 

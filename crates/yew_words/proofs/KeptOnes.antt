@@ -18,7 +18,7 @@ use Rattle.yew_words.specs.declared.settings.Settings.{Settings}
 use Rattle.yew_words.specs.Word.{Word, number_of}
 use Rattle.yew_words.specs.Table.{option_word, takes, is_for, required}
 use Rattle.yew_words.specs.Plans.{Setting, setting_words, IsValue, is_named, setting_of, is_given, value_of, number_at, AreSettings}
-use Rattle.yew_words.specs.Judge.{named, every_option}
+use Rattle.yew_words.specs.Table.{named, every_option}
 use Rattle.yew_words.specs.Kept.{kept_as, kept_of, index_of, kept_at, kept_number, kept_all, Keeps, AreKept, IsNarrow}
 use Rattle.yew_words.proofs.Names.{same_word, own_word, other_word, named_option}
 use Rattle.yew_words.proofs.GivenOnes.{first_differs, rest_differs}
@@ -74,12 +74,12 @@ list_all-kept head settings given keeps [] = refl
 list_all-kept head settings given keeps (name ∷ names) = rw (kept_given head settings given keeps name, list_all-kept head settings given keeps names) refl
 
 -- a setting that is found has the name, is for these first words and has its value
-found : (head : Head) (name : OptionName) (given : List Setting) (s : Setting) → setting_of name given ≡ Some s → AreSettings head given → (name ≡ s.name) × IsValue (takes head s.name) s.value
+pub found : (head : Head) (name : OptionName) (given : List Setting) (s : Setting) → setting_of name given ≡ Some s → AreSettings head given → (name ≡ s.name) × IsValue (takes head s.name) s.value × IsTrue (is_for head s.name)
 found head name [] s e are = absurd (none-some s e)
 found head name (t ∷ given) s e are =
     elim (cases_Bool (is_named name t)) [
       | inl h ↦ let is : t ≡ s = some_is t s (subst (λ (b : Bool). cond b (Some t) (setting_of name given) ≡ Some s) h e) in
-          subst (λ (u : Setting). (name ≡ u.name) × IsValue (takes head u.name) u.value) is (same_name name t.name (same_word (option_word name) (option_word t.name) h), are.1)
+          subst (λ (u : Setting). (name ≡ u.name) × IsValue (takes head u.name) u.value × IsTrue (is_for head u.name)) is (same_name name t.name (same_word (option_word name) (option_word t.name) h), are.1, are.0)
       | inr h ↦ found head name given s (subst (λ (b : Bool). cond b (Some t) (setting_of name given) ≡ Some s) h e) are.3
     ]
 
@@ -147,8 +147,10 @@ Keeps-push head old new given s keeps fresh count set name =
   where
     own : kept_at new s.name ≡ option_map (kept_of head) (setting_of s.name (given ++ s ∷ []))
     own = ap (λ (vs : List (Option Value)). get_or vs (index_of s.name) None) set ∙ get_or-set_same old.values (index_of s.name) (Some (kept_of head s)) None (omega (arith, index_below s.name)) ∙ ap (option_map (kept_of head)) (sym (setting_of-push_own given s fresh))
+
     apart : IsFalse (is_named name s) → index_of name ≢ index_of s.name
     apart h e = other_word (option_word name) (option_word s.name) h (ap option_word (same_index name s.name e))
+
     other : IsFalse (is_named name s) → kept_at new name ≡ option_map (kept_of head) (setting_of name (given ++ s ∷ []))
     other h = ap (λ (vs : List (Option Value)). get_or vs (index_of name) None) set ∙ get_or-set_other old.values (index_of s.name) (index_of name) (Some (kept_of head s)) None (apart h) ∙ keeps name ∙ ap (option_map (kept_of head)) (sym (setting_of-push_other name given s h))
 

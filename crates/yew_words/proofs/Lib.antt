@@ -1,3 +1,4 @@
+pub mod Judge
 pub mod Names
 pub mod GivenOnes
 pub mod Steps
@@ -9,4 +10,4 @@ pub mod KeptOnes
 pub mod Reading
 pub mod HeadWords
 pub mod MadePlans
-pub mod Rows
+pub mod PlanRanges

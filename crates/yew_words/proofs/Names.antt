@@ -14,7 +14,7 @@ use Rattle.yew_words.specs.declared.table.Problem.TheVariants as problems
 use Rattle.yew_words.specs.declared.table.Coordination.TheVariants as coordinations
 use Rattle.yew_words.specs.declared.table.OptionName.TheVariants as options
 use Rattle.yew_words.specs.Table.{problem_word, coordination_word, made_word, option_word}
-use Rattle.yew_words.specs.Judge.{named, every_problem, every_coordination, every_made, every_option}
+use Rattle.yew_words.specs.Table.{named, every_problem, every_coordination, every_made, every_option}
 
 pub same_word : (v w : Word) → bytes_eq v w ≡ true → v ≡ w
 same_word v w e = (bytes_eq-Decides v w).0 e

@@ -3,7 +3,7 @@ use Rattle.std.proofs.Common.{inl, inr, rules, arith, ◌≡◌, ℕ, ◌<◌, �
 use Rattle.std.specs.Prelude.{IsTrue, Err, Some, nat_le}
 use Rattle.yew_words.specs.declared.plan.UsageKind.TheVariants.{OutOfRange}
 use Rattle.yew_words.specs.declared.table.Takes.TheVariants.{Number}
-use Rattle.yew_words.specs.Judge.{value_fault}
+use Rattle.yew_words.specs.Kept.{value_fault}
 use Rattle.std.specs.List.{list_all}
 use Rattle.std.specs.Char.{is_ascii_digit}
 use Rattle.std.specs.Result.{OkIff}

@@ -11,7 +11,7 @@ use Rattle.yew_words.specs.declared.table.OptionName.{OptionName}
 use Rattle.yew_words.specs.Table.{required}
 use Rattle.yew_words.specs.Plans.{Planned, is_given, plan_of, PlanOf}
 use Rattle.yew_words.specs.Offences.{Due, DueJob, DueSkeleton, DueMade, DueFile, DueOption, DueValue, words_before, IsDue, MayNotEnd, Offending}
-use Rattle.yew_words.specs.Judge.{Fault, after, at_end, ended, go_on, judge_from, judge}
+use Rattle.yew_words.proofs.Judge.{Fault, after, at_end, ended, go_on, judge_from, judge}
 use Rattle.yew_words.proofs.Steps.{after_next, after_fault}
 
 -- what an answer says of the words

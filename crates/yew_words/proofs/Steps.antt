@@ -19,7 +19,9 @@ use Rattle.yew_words.specs.declared.table.Takes.TheVariants.{Nothing, OneOrAll, 
 use Rattle.yew_words.specs.Table.{problem_word, coordination_word, made_word, head_words, file_count, option_word, takes, is_for}
 use Rattle.yew_words.specs.Plans.{Setting, setting_words, IsValue, is_given}
 use Rattle.yew_words.specs.Offences.{Due, DueJob, DueSkeleton, DueMade, DueFile, DueOption, DueValue, words_before, IsDue, IsBadValue, IsOffence}
-use Rattle.yew_words.specs.Judge.{named, every_problem, every_coordination, every_made, every_option, due_files, after_problem, after_coordination, after_made, after_name, after_option, value_fault, after_value, after}
+use Rattle.yew_words.specs.Table.{named, every_problem, every_coordination, every_made, every_option}
+use Rattle.yew_words.specs.Kept.{value_fault}
+use Rattle.yew_words.proofs.Judge.{due_files, after_problem, after_coordination, after_made, after_name, after_option, after_value, after}
 use Rattle.yew_words.proofs.Names.{same_word, other_word, named_is, named_none, named_problem, named_coordination, named_made, named_option}
 use Rattle.yew_words.proofs.GivenOnes.{AreSettings-push}
 

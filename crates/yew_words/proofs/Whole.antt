@@ -15,7 +15,9 @@ use Rattle.yew_words.specs.declared.table.Takes.TheVariants.{Nothing, OneOrAll, 
 use Rattle.yew_words.specs.Table.{problem_word, coordination_word, made_word, head_words, file_count, option_word, takes, is_for, required}
 use Rattle.yew_words.specs.Plans.{Planned, Setting, setting_words, IsValue, is_given, AreSettings, AreFiles, plan_of, PlanOf}
 use Rattle.yew_words.specs.Offences.{Due, DueJob, DueSkeleton, DueMade, DueFile, DueOption, DueValue, words_before, IsDue, IsBadValue, IsOffence, MayNotEnd, IsRefused, Offending}
-use Rattle.yew_words.specs.Judge.{every_problem, every_coordination, every_made, every_option, due_files, after_problem, after_coordination, after_made, after_name, after_option, value_fault, after_value, after, at_end, ended, judge_from, judge}
+use Rattle.yew_words.specs.Table.{every_problem, every_coordination, every_made, every_option}
+use Rattle.yew_words.specs.Kept.{value_fault}
+use Rattle.yew_words.proofs.Judge.{due_files, after_problem, after_coordination, after_made, after_name, after_option, after_value, after, at_end, ended, judge_from, judge}
 use Rattle.yew_words.proofs.Names.{differs, named_problem, named_coordination, named_made, named_option, unnamed}
 use Rattle.yew_words.proofs.GivenOnes.{AreSettings-at, AreSettings-new}
 use Rattle.yew_words.proofs.Steps.{AreNames}

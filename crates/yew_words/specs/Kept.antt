@@ -1,8 +1,8 @@
 -- How a reader keeps the options that were given: a place for each, with its value.
-use Rattle.std.specs.Prelude.{◌≡◌, ◌≢◌, ℕ, suc, ◌<◌, ◌^◌, Bool, false, List, [], ◌∷◌, ◌++◌, length, flat_map, Option, Some, None, IsTrue, IsFalse, is_some, option_map, slice_index_or, bytes_eq, codes}
+use Rattle.std.specs.Prelude.{◌≡◌, ◌≢◌, ℕ, suc, ◌<◌, ◌^◌, Bool, false, List, [], ◌∷◌, ◌++◌, length, flat_map, Option, Some, None, IsTrue, IsFalse, is_some, option_map, slice_index_or, bytes_eq, codes, nat_le, ◌&&◌, if◌then◌else◌}
 use Rattle.std.specs.Option.{option_to_list}
 use Rattle.yew_words.specs.declared.plan.UsageKind.{UsageKind}
-use Rattle.yew_words.specs.declared.plan.UsageKind.TheVariants.{Missing, Unknown, NotHere, Repeated}
+use Rattle.yew_words.specs.declared.plan.UsageKind.TheVariants.{Missing, Unknown, Repeated, NotNumber, OutOfRange, NotHere}
 use Rattle.yew_words.specs.declared.table.Head.{Head}
 use Rattle.yew_words.specs.declared.table.OptionName.{OptionName}
 use Rattle.yew_words.specs.declared.table.OptionName.TheVariants as options
@@ -11,7 +11,7 @@ use Rattle.yew_words.specs.declared.table.Takes.TheVariants as takings
 use Rattle.yew_words.specs.declared.value.Value.{Value}
 use Rattle.yew_words.specs.declared.value.Value.TheVariants.{Nothing, OneOrAll, Number}
 use Rattle.yew_words.specs.declared.settings.Settings.{Settings}
-use Rattle.yew_words.specs.Word.{Word, number_of}
+use Rattle.yew_words.specs.Word.{Word, is_number, number_of}
 use Rattle.yew_words.specs.Table.{option_word, takes, is_for}
 use Rattle.yew_words.specs.Plans.{Setting, setting_words, IsValue, setting_of, is_given, AreSettings, AreFiles, HasRequired}
 use Rattle.yew_words.specs.Offences.{DueOption, words_before, IsBadValue, Offending}
@@ -21,6 +21,12 @@ abbrev pub kept_as : Takes → Option Word → Value
 kept_as takings.OneOrAll (Some word) = OneOrAll (bytes_eq word (codes "all"))
 kept_as (takings.Number low high) (Some word) = Number (number_of word)
 kept_as _ _ = Nothing
+
+-- the fault of a word where this is due
+abbrev pub value_fault : Takes → Word → Option UsageKind
+value_fault takings.Nothing word = None
+value_fault takings.OneOrAll word = if bytes_eq (codes "one") word then None else (if bytes_eq (codes "all") word then None else Some Unknown)
+value_fault (takings.Number low high) word = if is_number word then (if nat_le low (number_of word) && nat_le (number_of word) high then None else Some OutOfRange) else Some NotNumber
 
 abbrev pub kept_of : Head → Setting → Value
 kept_of head s = kept_as (takes head s.name) s.value
@@ -109,7 +115,7 @@ TakesSetting head settings words name value rest = (given : List Setting) → Ar
 -- The words, the first of them at the place `at`, begin with an option that may not stand behind those that are kept.
 abbrev pub RefusesSetting : Head → Settings → ℕ → List Word → ℕ → UsageKind → Type 0
 RefusesSetting head settings at words place kind = (files : List Word) (given : List Setting) → AreFiles head files → AreSettings head given → Keeps head settings given
-  → at ≡ suc (length (words_before (DueOption head files given))) → Offending (words_before (DueOption head files given) ++ words) place kind
+    → at ≡ suc (length (words_before (DueOption head files given))) → Offending (words_before (DueOption head files given) ++ words) place kind
 
 -- The words are options in order, none that is required is absent, and they are what is kept.
 pub record ReadsSettings (head : Head) (words : List Word) (settings : Settings) : Type 0 where

@@ -2,7 +2,6 @@ pub mod Word
 pub mod Table
 pub mod Plans
 pub mod Offences
-pub mod Judge
 pub mod Laws
 pub mod Kept
-pub mod Rows
+pub mod Ranges

@@ -29,8 +29,8 @@ words_before DueJob = []
 words_before (DueSkeleton problem) = problem_word problem ∷ []
 words_before DueMade = codes "make" ∷ []
 words_before (DueFile head files) = head_words head ++ files
-words_before (DueOption head files ss) = head_words head ++ files ++ flat_map setting_words ss
-words_before (DueValue head files ss name) = head_words head ++ files ++ flat_map setting_words ss ++ option_word name ∷ []
+words_before (DueOption head files given) = head_words head ++ files ++ flat_map setting_words given
+words_before (DueValue head files given name) = head_words head ++ files ++ flat_map setting_words given ++ option_word name ∷ []
 
 -- these words are in order, and this is due after them
 abbrev pub IsDue : Due → Type 0
@@ -38,8 +38,8 @@ IsDue DueJob = Unit {0}
 IsDue (DueSkeleton problem) = Unit {0}
 IsDue DueMade = Unit {0}
 IsDue (DueFile head files) = (length files < file_count head) × AllByRecursion (λ word. IsTrue (is_file_name word)) files
-IsDue (DueOption head files ss) = AreFiles head files × AreSettings head ss
-IsDue (DueValue head files ss name) = AreFiles head files × AreSettings head ss × IsTrue (is_for head name) × IsFalse (is_given ss name) × (takes head name ≢ Nothing)
+IsDue (DueOption head files given) = AreFiles head files × AreSettings head given
+IsDue (DueValue head files given name) = AreFiles head files × AreSettings head given × IsTrue (is_for head name) × IsFalse (is_given given name) × (takes head name ≢ Nothing)
 
 -- a word that is not what is due, and the kind of its fault
 abbrev pub IsBadValue : Takes → Word → UsageKind → Type 0
@@ -53,15 +53,15 @@ IsOffence DueJob word Unknown = ((problem : Problem) → word ≢ problem_word p
 IsOffence (DueSkeleton problem) word Unknown = (coordination : Coordination) → word ≢ coordination_word coordination
 IsOffence DueMade word Unknown = (kind : Made) → word ≢ made_word kind
 IsOffence (DueFile head files) word NotFile = IsFalse (is_file_name word)
-IsOffence (DueOption head files ss) word Unknown = (name : OptionName) → word ≢ option_word name
-IsOffence (DueOption head files ss) word NotHere = (name : OptionName) × (word ≡ option_word name) × IsFalse (is_for head name)
-IsOffence (DueOption head files ss) word Repeated = (name : OptionName) × (word ≡ option_word name) × IsTrue (is_for head name) × IsTrue (is_given ss name)
-IsOffence (DueValue head files ss name) word kind = IsBadValue (takes head name) word kind
+IsOffence (DueOption head files given) word Unknown = (name : OptionName) → word ≢ option_word name
+IsOffence (DueOption head files given) word NotHere = (name : OptionName) × (word ≡ option_word name) × IsFalse (is_for head name)
+IsOffence (DueOption head files given) word Repeated = (name : OptionName) × (word ≡ option_word name) × IsTrue (is_for head name) × IsTrue (is_given given name)
+IsOffence (DueValue head files given name) word kind = IsBadValue (takes head name) word kind
 IsOffence _ word _ = ⊥
 
 -- where the words may not end
 abbrev pub MayNotEnd : Due → Type 0
-MayNotEnd (DueOption head files ss) = ¬ HasRequired head ss
+MayNotEnd (DueOption head files given) = ¬ HasRequired head given
 MayNotEnd _ = Unit {0}
 
 -- The rest begins with an offending word, or is empty where a word must stand.

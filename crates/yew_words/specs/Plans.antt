@@ -71,22 +71,22 @@ is_named name s = bytes_eq (option_word name) (option_word s.name)
 -- the setting of an option, where it was given
 abbrev pub setting_of : OptionName → List Setting → Option Setting
 setting_of name [] = None
-setting_of name (s ∷ ss) = if is_named name s then Some s else setting_of name ss
+setting_of name (s ∷ given) = if is_named name s then Some s else setting_of name given
 
 abbrev pub is_given : List Setting → OptionName → Bool
-is_given ss name = is_some (setting_of name ss)
+is_given given name = is_some (setting_of name given)
 
 -- the word and the number behind an option's name
 abbrev pub value_of : List Setting → OptionName → Option Word
-value_of ss name = option_and_then (λ s. s.value) (setting_of name ss)
+value_of given name = option_and_then (λ s. s.value) (setting_of name given)
 
 abbrev pub number_at : List Setting → OptionName → Option ℕ
-number_at ss name = option_map number_of (value_of ss name)
+number_at given name = option_map number_of (value_of given name)
 
 -- each option is for these first words, has its value, and is given once
 abbrev pub AreSettings : Head → List Setting → Type 0
 AreSettings head [] = Unit {0}
-AreSettings head (s ∷ ss) = IsTrue (is_for head s.name) × IsValue (takes head s.name) s.value × IsFalse (is_given ss s.name) × AreSettings head ss
+AreSettings head (s ∷ given) = IsTrue (is_for head s.name) × IsValue (takes head s.name) s.value × IsFalse (is_given given s.name) × AreSettings head given
 
 -- the files' names, as many as the job has
 pub record AreFiles (head : Head) (files : List Word) : Type 0 where
@@ -95,7 +95,7 @@ pub record AreFiles (head : Head) (files : List Word) : Type 0 where
 
 -- no option that is required is absent
 abbrev pub HasRequired : Head → List Setting → Type 0
-HasRequired head ss = AllByRecursion (λ name. IsTrue (is_given ss name)) (required head)
+HasRequired head given = AllByRecursion (λ name. IsTrue (is_given given name)) (required head)
 
 abbrev pub job_of : Head → Job
 job_of (Search problems.Knapsack coordination) = jobs.Knapsack
@@ -106,33 +106,33 @@ job_of (Make kind) = jobs.Make kind
 
 -- the skeleton with its number: a depth that is absent is 2, a budget 1000, a chunk `one`
 abbrev pub skeleton_of : Head → List Setting → Skeleton
-skeleton_of (Search problem coordinations.Sequential) ss = skeletons.Sequential
-skeleton_of (Search problem coordinations.Depth) ss = skeletons.Depth (unwrap_or (number_at ss options.Depth) 2)
-skeleton_of (Search problem coordinations.Budget) ss = skeletons.Budget (unwrap_or (number_at ss options.Budget) 1000)
-skeleton_of (Search problem coordinations.Steal) ss = skeletons.Steal (bytes_eq (unwrap_or (value_of ss options.Chunk) (codes "one")) (codes "all"))
-skeleton_of (Search problem coordinations.Ordered) ss = skeletons.Ordered (unwrap_or (number_at ss options.Depth) 2)
-skeleton_of (Make kind) ss = skeletons.Sequential
+skeleton_of (Search problem coordinations.Sequential) given = skeletons.Sequential
+skeleton_of (Search problem coordinations.Depth) given = skeletons.Depth (unwrap_or (number_at given options.Depth) 2)
+skeleton_of (Search problem coordinations.Budget) given = skeletons.Budget (unwrap_or (number_at given options.Budget) 1000)
+skeleton_of (Search problem coordinations.Steal) given = skeletons.Steal (bytes_eq (unwrap_or (value_of given options.Chunk) (codes "one")) (codes "all"))
+skeleton_of (Search problem coordinations.Ordered) given = skeletons.Ordered (unwrap_or (number_at given options.Depth) 2)
+skeleton_of (Make kind) given = skeletons.Sequential
 
 -- the number of workers: 4 where it is absent, and 1 where the words do not concern it
 abbrev pub workers_of : Head → List Setting → ℕ
-workers_of (Search problem coordinations.Sequential) ss = 1
-workers_of (Search problem _) ss = unwrap_or (number_at ss options.Workers) 4
-workers_of (Make kind) ss = 1
+workers_of (Search problem coordinations.Sequential) given = 1
+workers_of (Search problem _) given = unwrap_or (number_at given options.Workers) 4
+workers_of (Make kind) given = 1
 
 -- the plan of first words, files and settings. A field that none of them concerns is empty, None, 0 or false
 abbrev pub plan_of : Head → List Word → List Setting → Planned
-plan_of head files ss = record {
+plan_of head files given = record {
   job = job_of head;
-  skeleton = skeleton_of head ss;
+  skeleton = skeleton_of head given;
   files = files;
-  workers = workers_of head ss;
-  target = number_at ss options.Target;
-  genus = unwrap_or (number_at ss options.Genus) 0;
-  audit = is_given ss options.Audit;
-  report = is_given ss options.Report;
-  seed = unwrap_or (number_at ss options.Seed) 0;
-  size = unwrap_or (number_at ss options.Size) 0;
-  solve = is_given ss options.Solve;
+  workers = workers_of head given;
+  target = number_at given options.Target;
+  genus = unwrap_or (number_at given options.Genus) 0;
+  audit = is_given given options.Audit;
+  report = is_given given options.Report;
+  seed = unwrap_or (number_at given options.Seed) 0;
+  size = unwrap_or (number_at given options.Size) 0;
+  solve = is_given given options.Solve;
 }
 
 -- The words are the first two, the files' names, and options in any order, each at most once; and this is their plan.

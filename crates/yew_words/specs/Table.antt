@@ -1,5 +1,5 @@
 -- The words that the grammar knows: jobs, skeletons, what is made, and the options with their values and places.
-use Rattle.std.specs.Prelude.{ℕ, Bool, true, false, List, [], ◌∷◌, codes}
+use Rattle.std.specs.Prelude.{ℕ, Bool, true, false, List, [], ◌∷◌, Option, find, bytes_eq, codes}
 use Rattle.yew_words.specs.declared.plan.Made.{Made}
 use Rattle.yew_words.specs.declared.plan.Made.TheVariants as made
 use Rattle.yew_words.specs.declared.table.Problem.{Problem}
@@ -142,3 +142,20 @@ abbrev pub required : Head → List OptionName
 required (Search problems.Semigroups coordination) = options.Genus ∷ []
 required (Search _ coordination) = []
 required (Make kind) = options.Seed ∷ options.Size ∷ []
+
+-- the one of these that a word names
+abbrev pub named : {A : Type 0} → (A → Word) → List A → Word → Option A
+named word_of names word = find (λ name. bytes_eq (word_of name) word) names
+
+-- each of a kind
+abbrev pub every_problem : List Problem
+every_problem = problems.Knapsack ∷ problems.Tsp ∷ problems.Subgraph ∷ problems.Semigroups ∷ []
+
+abbrev pub every_coordination : List Coordination
+every_coordination = coordinations.Sequential ∷ coordinations.Depth ∷ coordinations.Budget ∷ coordinations.Steal ∷ coordinations.Ordered ∷ []
+
+abbrev pub every_made : List Made
+every_made = made.Knapsack ∷ made.Tsp ∷ made.Lad ∷ []
+
+abbrev pub every_option : List OptionName
+every_option = options.Workers ∷ options.Depth ∷ options.Budget ∷ options.Chunk ∷ options.Target ∷ options.Genus ∷ options.Report ∷ options.Audit ∷ options.Seed ∷ options.Size ∷ options.Solve ∷ []

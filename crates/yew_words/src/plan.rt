@@ -28,21 +28,22 @@ pub enum Job {
     Make(Made),
 }
 
-/// How a tree is searched (Archibald et al., "YewPar: skeletons for exact combinatorial search", PPoPP 2020).
+/// How a tree is searched, after the skeletons of YewPar (Archibald et al., "YewPar: skeletons for exact combinatorial
+/// search", PPoPP 2020), and `Ordered` besides.
 #[derive(Clone, Copy, Debug, PartialEq, Eq)]
 pub enum Skeleton {
     /// One worker, in preorder.
     Sequential,
-    /// Every node above this depth becomes a task: 1 to 255.
+    /// Depth-Bounded: each node down to this depth, 1 to 255, becomes a task.
     Depth(u32),
-    /// A task spawns after this many backtracks: 1 to 2^32-1.
+    /// Budget: a task gives work away after this many backtracks, 1 to 2^32-1.
     Budget(u64),
-    /// Idle workers steal the nearest child to the root, or with `all` every one there.
+    /// Stack-Stealing: an idle worker asks another for work.
     Steal {
-        /// Whether all children of the level are given.
+        /// Whether it is given all children of a level, and not one.
         all: bool,
     },
-    /// The tasks of this depth, 1 to 255, are taken in preorder.
+    /// Tasks are numbered down to this depth, 1 to 255, and the answer is that of `Sequential`.
     Ordered(u32),
 }
 

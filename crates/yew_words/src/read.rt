@@ -6,6 +6,7 @@ ghost use Rattle.yew_words.specs.declared.plan.UsageKind.{UsageKind};
 ghost use Rattle.yew_words.specs.Word.{texts};
 ghost use Rattle.yew_words.specs.Table.{problem_word, head_words, required};
 ghost use Rattle.yew_words.specs.Plans.{Planned, planned, PlanOf, AreFiles};
+ghost use Rattle.yew_words.specs.Ranges.{IsWithin};
 ghost use Rattle.yew_words.specs.Offences.{Offending};
 ghost use Rattle.yew_words.specs.Kept.{kept_at, NamesOption, RefusesName, TakesSetting, RefusesSetting, ReadsSettings};
 
@@ -28,6 +29,9 @@ pub fn read_words<'a>(words: &'a [String]) -> Result<Plan<'a>, Usage>
     ensures plan { IfOk result (λ plan. PlanOf (texts words.now) (planned plan)) }
     ensures offence { IfErr result (λ usage. Offending (texts words.now) usage.place usage.kind) }
 
+    // Each field of a plan is in its range.
+    ensures within { IfOk result (λ plan. IsWithin (planned plan)) }
+
     // Both are answered wherever they hold.
     ensures each_plan { (plan : Planned) → PlanOf (texts words.now) plan →
         IsOkAnd result (λ answered. planned answered ≡ plan) }
@@ -46,12 +50,18 @@ fn read_head(words: &[String]) -> Result<(Head, &[String]), Usage>
     ensures offence { IfErr result (λ usage. Offending (texts words.now) usage.place usage.kind) }
 {
     let Some((first, rest)) = words.split_first() else {
-        return Err(Usage { place: 1, kind: UsageKind::Missing });
+        return Err(Usage {
+            place: 1,
+            kind: UsageKind::Missing,
+        });
     };
     match Problem::named(first) {
         Some(problem) => read_coordination(problem, rest),
         None if first.as_str() == "make" => read_made(rest),
-        None => Err(Usage { place: 1, kind: UsageKind::Unknown }),
+        None => Err(Usage {
+            place: 1,
+            kind: UsageKind::Unknown,
+        }),
     }
 }
 
@@ -63,11 +73,17 @@ fn read_coordination(problem: Problem, words: &[String]) -> Result<(Head, &[Stri
         Offending (problem_word problem ∷ texts words.now) usage.place usage.kind) }
 {
     let Some((second, rest)) = words.split_first() else {
-        return Err(Usage { place: 2, kind: UsageKind::Missing });
+        return Err(Usage {
+            place: 2,
+            kind: UsageKind::Missing,
+        });
     };
     match Coordination::named(second) {
         Some(coordination) => Ok((Head::Search(problem, coordination), rest)),
-        None => Err(Usage { place: 2, kind: UsageKind::Unknown }),
+        None => Err(Usage {
+            place: 2,
+            kind: UsageKind::Unknown,
+        }),
     }
 }
 
@@ -79,11 +95,17 @@ fn read_made(words: &[String]) -> Result<(Head, &[String]), Usage>
         Offending (codes "make" ∷ texts words.now) usage.place usage.kind) }
 {
     let Some((second, rest)) = words.split_first() else {
-        return Err(Usage { place: 2, kind: UsageKind::Missing });
+        return Err(Usage {
+            place: 2,
+            kind: UsageKind::Missing,
+        });
     };
     match made_named(second) {
         Some(made) => Ok((Head::Make(made), rest)),
-        None => Err(Usage { place: 2, kind: UsageKind::Unknown }),
+        None => Err(Usage {
+            place: 2,
+            kind: UsageKind::Unknown,
+        }),
     }
 }
 
@@ -98,10 +120,16 @@ fn read_files<'a>(head: Head, words: &'a [String]) -> Result<(&'a [String], &'a 
     for index in 0..count {
         let place = 3 + index as u32;
         let Some(word) = words.get(index) else {
-            return Err(Usage { place, kind: UsageKind::Missing });
+            return Err(Usage {
+                place,
+                kind: UsageKind::Missing,
+            });
         };
         if !is_file_name(word) {
-            return Err(Usage { place, kind: UsageKind::NotFile });
+            return Err(Usage {
+                place,
+                kind: UsageKind::NotFile,
+            });
         }
     }
     Ok(words.split_at(count))
@@ -124,7 +152,10 @@ fn read_options(head: Head, files: &[String], words: &[String]) -> Result<Settin
         rest = left;
     }
     if !has_required(head, &settings) {
-        return Err(Usage { place, kind: UsageKind::Missing });
+        return Err(Usage {
+            place,
+            kind: UsageKind::Missing,
+        });
     }
     Ok(settings)
 }
@@ -156,7 +187,10 @@ fn read_option<'a>(
     };
     match read_value(name.takes(head), behind) {
         Ok((value, rest)) => Ok((name, value, rest)),
-        Err(kind) => Err(Usage { place: place + 1, kind }),
+        Err(kind) => Err(Usage {
+            place: place + 1,
+            kind,
+        }),
     }
 }
 

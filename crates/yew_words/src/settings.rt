@@ -19,7 +19,9 @@ impl Settings {
         ensures count { length result.values ≡ OPTION_COUNT }
         ensures empty { (name : OptionName) → kept_at result name ≡ None }
     {
-        Settings { values: [None; OPTION_COUNT] }
+        Settings {
+            values: [None; OPTION_COUNT],
+        }
     }
 
     /// The option is given, with this value.

@@ -2,7 +2,7 @@
 
 ghost use Rattle.std.specs.Prelude.{◌≡◌};
 ghost use Rattle.yew_words.specs.Table.{problem_word, coordination_word, made_word, file_count, option_word, takes, is_for, is_for_search, is_for_make, required};
-ghost use Rattle.yew_words.specs.Judge.{named, every_problem, every_coordination, every_made, every_option};
+ghost use Rattle.yew_words.specs.Table.{named, every_problem, every_coordination, every_made, every_option};
 ghost use Rattle.yew_words.specs.declared.table.OptionName.TheVariants as options;
 
 use crate::plan::Made;
@@ -109,7 +109,10 @@ impl Problem {
     pub fn named(word: &str) -> Option<Problem>
         ensures { result ≡ named problem_word every_problem word.now }
     {
-        PROBLEMS.iter().copied().find(|problem| problem.word() == word)
+        PROBLEMS
+            .iter()
+            .copied()
+            .find(|problem| problem.word() == word)
     }
 }
 
@@ -130,7 +133,10 @@ impl Coordination {
     pub fn named(word: &str) -> Option<Coordination>
         ensures { result ≡ named coordination_word every_coordination word.now }
     {
-        COORDINATIONS.iter().copied().find(|coordination| coordination.word() == word)
+        COORDINATIONS
+            .iter()
+            .copied()
+            .find(|coordination| coordination.word() == word)
     }
 }
 
@@ -138,7 +144,10 @@ impl Coordination {
 pub fn made_named(word: &str) -> Option<Made>
     ensures { result ≡ named made_word every_made word.now }
 {
-    MADES.iter().copied().find(|made| word_of_made(*made) == word)
+    MADES
+        .iter()
+        .copied()
+        .find(|made| word_of_made(*made) == word)
 }
 
 fn word_of_made(made: Made) -> &'static str
@@ -234,7 +243,10 @@ impl OptionName {
     {
         match self {
             OptionName::Workers => !matches!(coordination, Coordination::Sequential),
-            OptionName::Depth => matches!(coordination, Coordination::Depth | Coordination::Ordered),
+            OptionName::Depth => matches!(
+                coordination,
+                Coordination::Depth | Coordination::Ordered
+            ),
             OptionName::Budget => matches!(coordination, Coordination::Budget),
             OptionName::Chunk => matches!(coordination, Coordination::Steal),
             OptionName::Target => matches!(problem, Problem::Knapsack),

@@ -5,7 +5,7 @@ ghost use Rattle.std.specs.List.{list_all};
 ghost use Rattle.std.specs.Char.{is_ascii_digit};
 ghost use Rattle.yew_words.specs.Word.{texts, is_file_name, is_number, number_of};
 ghost use Rattle.yew_words.specs.declared.table.Takes.TheVariants as takings;
-ghost use Rattle.yew_words.specs.Judge.{value_fault};
+ghost use Rattle.yew_words.specs.Kept.{value_fault};
 ghost use Rattle.yew_words.specs.Kept.{kept_as, TakesValue, RefusesValue};
 
 use crate::plan::UsageKind;

@@ -1,7 +1,7 @@
 -- The word that names an option is its word.
 use Rattle.std.proofs.Common.{sym, ◌∙◌}
 use Rattle.yew_words.specs.Table.{option_word}
-use Rattle.yew_words.specs.Judge.{every_option}
+use Rattle.yew_words.specs.Table.{every_option}
 use Rattle.yew_words.proofs.Names.{named_is}
 use Rattle.yew_words.proofs.read.read_name.Goals as goal
 

@@ -4,6 +4,7 @@ use Rattle.std.specs.Prelude.{IfOk, IfErr}
 use Rattle.yew_words.specs.Word.{texts}
 use Rattle.yew_words.specs.Plans.{planned, PlanOf}
 use Rattle.yew_words.specs.Offences.{Offending}
+use Rattle.yew_words.proofs.PlanRanges.{plan_within}
 use Rattle.yew_words.proofs.Answer.{each_plan, each_offence}
 use Rattle.yew_words.proofs.read.read_words.Goals as goal
 
@@ -52,3 +53,8 @@ pub returns-clause-each_offence : goal.returns-clause-each_offence
 returns-clause-each_offence c =
     let is_plan : PlanOf (texts c.args.words.now) (planned c.make_plan.result) = search rules in
     each_offence (texts c.args.words.now) (Ok c.make_plan.result) is_plan tt
+
+pub returns-clause-within : goal.returns-clause-within
+returns-clause-within c =
+    let is_plan : PlanOf (texts c.args.words.now) (planned c.make_plan.result) = search rules in
+    plan_within (texts c.args.words.now) (planned c.make_plan.result) is_plan

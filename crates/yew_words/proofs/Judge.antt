@@ -1,4 +1,4 @@
--- The same grammar as a function on the words, one word at a time: what a reader's contract cites.
+-- The same grammar as a function on the words, one word at a time.
 use Rattle.std.specs.Prelude.{ℕ, suc, find, ◌&&◌, List, [], ◌∷◌, ◌++◌, length, Option, Some, None, Result, Ok, Err, nat_lt, nat_le, bytes_eq, codes, if◌then◌else◌}
 use Rattle.std.specs.List.{list_all}
 use Rattle.yew_words.specs.declared.plan.Made.{Made}
@@ -16,25 +16,10 @@ use Rattle.yew_words.specs.declared.table.Coordination.TheVariants as coordinati
 use Rattle.yew_words.specs.declared.table.OptionName.TheVariants as options
 use Rattle.yew_words.specs.declared.table.Head.TheVariants.{Search, Make}
 use Rattle.yew_words.specs.declared.table.Takes.TheVariants.{Nothing, OneOrAll, Number}
-use Rattle.yew_words.specs.Table.{problem_word, coordination_word, made_word, file_count, option_word, takes, is_for, required}
+use Rattle.yew_words.specs.Table.{problem_word, coordination_word, made_word, file_count, option_word, takes, is_for, required, named, every_problem, every_coordination, every_made, every_option}
+use Rattle.yew_words.specs.Kept.{value_fault}
 use Rattle.yew_words.specs.Plans.{Planned, Setting, is_given, plan_of}
 use Rattle.yew_words.specs.Offences.{Due, DueJob, DueSkeleton, DueMade, DueFile, DueOption, DueValue}
-
--- the one of these that a word names
-abbrev pub named : {A : Type 0} → (A → Word) → List A → Word → Option A
-named word_of names word = find (λ name. bytes_eq (word_of name) word) names
-
-abbrev pub every_problem : List Problem
-every_problem = problems.Knapsack ∷ problems.Tsp ∷ problems.Subgraph ∷ problems.Semigroups ∷ []
-
-abbrev pub every_coordination : List Coordination
-every_coordination = coordinations.Sequential ∷ coordinations.Depth ∷ coordinations.Budget ∷ coordinations.Steal ∷ coordinations.Ordered ∷ []
-
-abbrev pub every_made : List Made
-every_made = made.Knapsack ∷ made.Tsp ∷ made.Lad ∷ []
-
-abbrev pub every_option : List OptionName
-every_option = options.Workers ∷ options.Depth ∷ options.Budget ∷ options.Chunk ∷ options.Target ∷ options.Genus ∷ options.Report ∷ options.Audit ∷ options.Seed ∷ options.Size ∷ options.Solve ∷ []
 
 -- what is due behind so many files
 abbrev pub due_files : Head → List Word → Due
@@ -53,23 +38,17 @@ after_made (Some kind) = Ok (due_files (Make kind) [])
 after_made None = Err Unknown
 
 abbrev pub after_name : Head → List Word → List Setting → OptionName → Takes → Due
-after_name head files ss name Nothing = DueOption head files (ss ++ record { name = name; value = None } ∷ [])
-after_name head files ss name OneOrAll = DueValue head files ss name
-after_name head files ss name (Number low high) = DueValue head files ss name
+after_name head files given name Nothing = DueOption head files (given ++ record { name = name; value = None } ∷ [])
+after_name head files given name OneOrAll = DueValue head files given name
+after_name head files given name (Number low high) = DueValue head files given name
 
 abbrev pub after_option : Head → List Word → List Setting → Option OptionName → Result Due UsageKind
-after_option head files ss None = Err Unknown
-after_option head files ss (Some name) = if is_for head name then (if is_given ss name then Err Repeated else Ok (after_name head files ss name (takes head name))) else Err NotHere
-
--- the fault of a value's word
-abbrev pub value_fault : Takes → Word → Option UsageKind
-value_fault Nothing word = None
-value_fault OneOrAll word = if bytes_eq (codes "one") word then None else (if bytes_eq (codes "all") word then None else Some Unknown)
-value_fault (Number low high) word = if is_number word then (if nat_le low (number_of word) && nat_le (number_of word) high then None else Some OutOfRange) else Some NotNumber
+after_option head files given None = Err Unknown
+after_option head files given (Some name) = if is_for head name then (if is_given given name then Err Repeated else Ok (after_name head files given name (takes head name))) else Err NotHere
 
 abbrev pub after_value : Head → List Word → List Setting → OptionName → Word → Option UsageKind → Result Due UsageKind
-after_value head files ss name word None = Ok (DueOption head files (ss ++ record { name = name; value = Some word } ∷ []))
-after_value head files ss name word (Some kind) = Err kind
+after_value head files given name word None = Ok (DueOption head files (given ++ record { name = name; value = Some word } ∷ []))
+after_value head files given name word (Some kind) = Err kind
 
 -- what is due after a word, or the word's fault
 abbrev pub after : Due → Word → Result Due UsageKind
@@ -77,12 +56,12 @@ after DueJob word = after_problem (named problem_word every_problem word) word
 after (DueSkeleton problem) word = after_coordination problem (named coordination_word every_coordination word)
 after DueMade word = after_made (named made_word every_made word)
 after (DueFile head files) word = if is_file_name word then Ok (due_files head (files ++ word ∷ [])) else Err NotFile
-after (DueOption head files ss) word = after_option head files ss (named option_word every_option word)
-after (DueValue head files ss name) word = after_value head files ss name word (value_fault (takes head name) word)
+after (DueOption head files given) word = after_option head files given (named option_word every_option word)
+after (DueValue head files given name) word = after_value head files given name word (value_fault (takes head name) word)
 
 -- the plan where the words end here, or what is missing
 abbrev pub at_end : Due → Result Planned UsageKind
-at_end (DueOption head files ss) = if list_all (is_given ss) (required head) then Ok (plan_of head files ss) else Err Missing
+at_end (DueOption head files given) = if list_all (is_given given) (required head) then Ok (plan_of head files given) else Err Missing
 at_end _ = Err Missing
 
 -- the first offending word: its place and its kind
