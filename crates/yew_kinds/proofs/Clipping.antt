@@ -18,8 +18,8 @@ greatest_of-zero (m ∷ ms) = let rest = greatest_of-zero ms in omega arith
 clipped-meets : (target worth : ℕ) → clipped target worth ≡ 1 → target ≤ worth
 clipped-meets target worth e =
     elim (nat_le target worth) as (λ b. nat_le target worth ≡ b → ◌≡◌ {A = ℕ} (if b then 1 else 0) 1 → target ≤ worth)
-      [ true ↦ λ is h. leb-true target worth is | false ↦ λ is h. absurd (omega (arith, h)) ]
-      refl e
+    [ true ↦ λ is h. leb-true target worth is | false ↦ λ is h. absurd (omega (arith, h)) ]
+    refl e
 
 -- a clipped worth of 1 is a worth that meets the target
 pub option_map-clipped : {N : Type 0} (worth : N → ℕ) (target : ℕ) (found : Option N) → ◌≡◌ {A = Option ℕ} (option_map (λ n. clipped target (worth n)) found) (Some 1) → IsSomeAnd (option_map worth found) (λ w. target ≤ w)
@@ -49,10 +49,11 @@ module _ {N : Type 0} (worth : N → ℕ) (target : ℕ) where
   met-from_greatest [] above = absurd (omega arith)
   met-from_greatest (m ∷ ms) above =
       elim (nat_le target (worth m.node))
-        as (λ b. nat_le target (worth m.node) ≡ b → 0 < max (if b then 1 else 0) (greatest_of clip ms) → Any Meets (m ∷ ms))
-        [ true ↦ λ e h. (0, m, omega arith, refl, leb-true target (worth m.node) e)
-        | false ↦ λ e h. later m ms (met-from_greatest ms (omega arith)) ]
-        refl above
+      as (λ b. nat_le target (worth m.node) ≡ b → 0 < max (if b then 1 else 0) (greatest_of clip ms) → Any Meets (m ∷ ms)) [
+        | true ↦ λ e h. (0, m, omega arith, refl, leb-true target (worth m.node) e)
+        | false ↦ λ e h. later m ms (met-from_greatest ms (omega arith))
+      ]
+      refl above
 
   -- where some member meets the target, it is not 0
   pub greatest-from_met : (ms : List (Member N)) → Any Meets ms → 0 < greatest_of clip ms
@@ -69,21 +70,23 @@ module _ {N : Type 0} (worth : N → ℕ) (target : ℕ) where
 pub first_with-greatest : {N : Type 0} (worth : N → ℕ) (w : ℕ) (ms : List (Member N)) → greatest_of worth ms ≡ w → 0 < w → IsSome (first_with worth w ms)
 first_with-greatest worth w [] e above = absurd (omega (arith, e))
 first_with-greatest worth w (m ∷ ms) e above =
-    elim (worth m.node == w) as (λ b. (worth m.node == w) ≡ b → IsSome (if b then Some m.path else first_with worth w ms))
-      [ true ↦ λ is. refl
+    elim (worth m.node == w) as (λ b. (worth m.node == w) ≡ b → IsSome (if b then Some m.path else first_with worth w ms)) [
+      | true ↦ λ is. refl
       | false ↦ λ is.
           let other : worth m.node ≢ w = grind (arith, nat_tests) in
-          first_with-greatest worth w ms (omega (arith, e)) above ]
-      refl
+          first_with-greatest worth w ms (omega (arith, e)) above
+    ]
+    refl
 
 -- the worth of the node at the path of a first member
 pub first_with-worth : {N : Type 0} (worth : N → ℕ) (node_at : List ℕ → Option N) (w : ℕ) (ms : List (Member N)) → AllByRecursion (λ m. node_at m.path ≡ Some m.node) ms → IfSome (first_with worth w ms) (λ path. option_map worth (node_at path) ≡ Some w)
 first_with-worth worth node_at w [] at = tt
 first_with-worth worth node_at w (m ∷ ms) at =
-    elim (worth m.node == w) as (λ b. (worth m.node == w) ≡ b → IfSome (if b then Some m.path else first_with worth w ms) (λ path. option_map worth (node_at path) ≡ Some w))
-      [ true ↦ λ is. ap (option_map worth) at.0 ∙ ap Some (nat-is (worth m.node) w is)
-      | false ↦ λ is. first_with-worth worth node_at w ms at.1 ]
-      refl
+    elim (worth m.node == w) as (λ b. (worth m.node == w) ≡ b → IfSome (if b then Some m.path else first_with worth w ms) (λ path. option_map worth (node_at path) ≡ Some w)) [
+      | true ↦ λ is. ap (option_map worth) at.0 ∙ ap Some (nat-is (worth m.node) w is)
+      | false ↦ λ is. first_with-worth worth node_at w ms at.1
+    ]
+    refl
 
 module _ {N : Type 0} (worth : N → ℕ) (target : ℕ) where
   abbrev best : List (Member N) → Option (List ℕ)
@@ -93,21 +96,23 @@ module _ {N : Type 0} (worth : N → ℕ) (target : ℕ) where
   pub first_best-is : (ms : List (Member N)) → IsSome (best ms) ↔ Any (Meets worth target) ms
   first_best-is ms =
       let top = greatest_of (clip worth target) ms in
-      elim (top == 0) as (λ b. (top == 0) ≡ b → IsSome (if b then None else first_with (clip worth target) top ms) ↔ Any (Meets worth target) ms)
-        [ true ↦ λ is. (λ h. absurd (cc), λ some. let above = greatest-from_met worth target ms some in let none : top ≡ 0 = nat-is top 0 is in absurd (omega arith))
-        | false ↦ λ is. let above : 0 < top = grind (arith, nat_tests) in (λ h. met-from_greatest worth target ms above, λ some. first_with-greatest (clip worth target) top ms refl above) ]
-        refl
+      elim (top == 0) as (λ b. (top == 0) ≡ b → IsSome (if b then None else first_with (clip worth target) top ms) ↔ Any (Meets worth target) ms) [
+        | true ↦ λ is. (λ h. absurd (cc), λ some. let above = greatest-from_met worth target ms some in let none : top ≡ 0 = nat-is top 0 is in absurd (omega arith))
+        | false ↦ λ is. let above : 0 < top = grind (arith, nat_tests) in (λ h. met-from_greatest worth target ms above, λ some. first_with-greatest (clip worth target) top ms refl above)
+      ]
+      refl
 
   -- and its node meets the target
   pub first_best-meets : (node_at : List ℕ → Option N) (ms : List (Member N)) → AllByRecursion (λ m. node_at m.path ≡ Some m.node) ms → IfSome (best ms) (λ path. IsSomeAnd (option_map worth (node_at path)) (λ w. target ≤ w))
   first_best-meets node_at ms at =
       let top = greatest_of (clip worth target) ms in
-      elim (top == 0) as (λ b. (top == 0) ≡ b → IfSome (if b then None else first_with (clip worth target) top ms) (λ path. IsSomeAnd (option_map worth (node_at path)) (λ w. target ≤ w)))
-        [ true ↦ λ is. tt
+      elim (top == 0) as (λ b. (top == 0) ≡ b → IfSome (if b then None else first_with (clip worth target) top ms) (λ path. IsSomeAnd (option_map worth (node_at path)) (λ w. target ≤ w))) [
+        | true ↦ λ is. tt
         | false ↦ λ is.
             let above : 0 < top = grind (arith, nat_tests) in
             let small = greatest_of-clipped worth target ms in
             let one : top ≡ 1 = omega arith in
             IfSome_then (first_with (clip worth target) top ms) (first_with-worth (clip worth target) node_at top ms at)
-              (λ path is. option_map-clipped worth target (node_at path) (is ∙ ap Some one)) ]
-        refl
+            (λ path is. option_map-clipped worth target (node_at path) (is ∙ ap Some one))
+      ]
+      refl

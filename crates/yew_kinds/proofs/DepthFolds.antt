@@ -56,4 +56,4 @@ module _ {N : Type 0} (depths : ℕ) where
       ap₂ joined_counts (ones-range 0 (depths + 1) (length m.path) ∙ ap (λ k. map (one k) ks) start) (fold-members_at ms)
       ∙ joined-map (one (length m.path)) (λ depth. saturated (members_at depth ms)) ks
       ∙ map-agree (λ k. saturated (one (length m.path) k + saturated (members_at k ms))) (λ k. saturated (members_at k (m ∷ ms)))
-        (λ k. one_more (one (length m.path) k) (members_at k ms) ∙ ap saturated (sym (sum_by-cons (λ (x : Member N). one (length x.path) k) m ms))) ks
+      (λ k. one_more (one (length m.path) k) (members_at k ms) ∙ ap saturated (sym (sum_by-cons (λ (x : Member N). one (length x.path) k) m ms))) ks

@@ -10,7 +10,7 @@ abbrev pub partly_joined : ℕ → List ℕ → List ℕ → List ℕ
 partly_joined k xs ys = joined_counts (take k xs) (take k ys) ++ drop k xs
 
 pub partly_joined-more : (k : ℕ) (xs ys : List ℕ) → length xs ≡ length ys → k < length xs →
-  slice_set (partly_joined k xs ys) k (saturated (slice_index (partly_joined k xs ys) k + slice_index ys k)) ≡ partly_joined (suc k) xs ys
+    slice_set (partly_joined k xs ys) k (saturated (slice_index (partly_joined k xs ys) k + slice_index ys k)) ≡ partly_joined (suc k) xs ys
 partly_joined-more k [] ys e h = absurd (omega arith)
 partly_joined-more k (x ∷ xs) [] e h = absurd (omega (arith, e))
 partly_joined-more zero (x ∷ xs) (y ∷ ys) e h = refl
@@ -24,7 +24,7 @@ partly_joined-all (x ∷ xs) (y ∷ ys) e = ap (λ zs. saturated (x + y) ∷ zs)
 
 -- one node more is one count more
 pub joined_counts-one_at : (n : ℕ) (xs : List ℕ) (depth : ℕ) → length xs ≡ n → AllByRecursion (λ count. count < 2 ^ 64) xs →
-  joined_counts xs (slice_set (replicate {A = ℕ} n 0) depth 1) ≡ slice_set xs depth (saturated (slice_index xs depth + 1))
+    joined_counts xs (slice_set (replicate {A = ℕ} n 0) depth 1) ≡ slice_set xs depth (saturated (slice_index xs depth + 1))
 joined_counts-one_at n [] depth e s = refl
 joined_counts-one_at zero (x ∷ xs) depth e s = absurd (omega (arith, e))
 joined_counts-one_at (suc n) (x ∷ xs) zero e s =

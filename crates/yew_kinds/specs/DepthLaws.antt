@@ -56,9 +56,9 @@ pub counts-tally : (depths : ℕ) → IsTally (HasCounts depths) joined_counts (
 counts-tally depths = record {
   none_fits = record { one_each = length-replicate (depths + 1) 0; small = replicate-small (depths + 1) };
   join_fits = λ a b fit_a fit_b. record {
-        one_each = length-joined_counts a b (fit_a.one_each ∙ sym fit_b.one_each) ∙ fit_a.one_each;
-        small = joined_counts-small a b;
-      };
+    one_each = length-joined_counts a b (fit_a.one_each ∙ sym fit_b.one_each) ∙ fit_a.one_each;
+    small = joined_counts-small a b;
+  };
   assoc = λ a b c fit_a fit_b fit_c. joined_counts-assoc a b c (fit_a.one_each ∙ sym fit_b.one_each) (fit_b.one_each ∙ sym fit_c.one_each);
   comm = λ a b fit_a fit_b. joined_counts-comm a b (fit_a.one_each ∙ sym fit_b.one_each);
   unit = λ a fit_a. joined_counts-zeros (depths + 1) a fit_a.one_each fit_a.small;

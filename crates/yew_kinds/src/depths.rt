@@ -95,3 +95,28 @@ impl<N> Tally<N> for ByDepth {
         sum.join(&other);
     }
 }
+
+#[cfg(test)]
+mod tests {
+    use super::*;
+    use std::test::Fail;
+
+    #[test]
+    fn saturates(rt: HostRuntime) -> Result<(), Fail> {
+        let alloc = rt.alloc();
+        let mut sum = Depths {
+            counts: vec![in alloc; u64::MAX, 5]?,
+        };
+        sum.note(0);
+        sum.note(1);
+        sum.note(2);
+        assert_eq!(rt; sum.counts(), [u64::MAX, 6].as_slice());
+        let other = Depths {
+            counts: vec![in alloc; 1, u64::MAX - 6]?,
+        };
+        assert_eq!(rt; sum.counts().len(), other.counts().len());
+        sum.join(&other);
+        assert_eq!(rt; sum.counts(), [u64::MAX, u64::MAX].as_slice());
+        Ok(())
+    }
+}

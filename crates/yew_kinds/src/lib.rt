@@ -16,3 +16,6 @@ pub use counted::Counted;
 pub use depths::{ByDepth, Depths};
 pub use kind::{Answer, Kind};
 pub use tally::{NoTally, Tally};
+
+#[cfg(test)]
+mod tests;

@@ -15,9 +15,10 @@ pub returns-clause-greatest : goal.returns-clause-greatest
 returns-clause-greatest g c =
     let clip = c.args.clipped.now in
     let t = search_tree g.P.Problem clip.inner.now in
-    let small = greatest_of-clipped t.worth clip.target (preorder t) in
-    ( λ one. met-from_greatest t.worth clip.target (preorder t) (omega (arith, one)),
-      λ some. let above = greatest-from_met t.worth clip.target (preorder t) some in omega arith )
+    let small = greatest_of-clipped t.worth clip.target (preorder t) in (
+      λ one. met-from_greatest t.worth clip.target (preorder t) (omega (arith, one)),
+      λ some. let above = greatest-from_met t.worth clip.target (preorder t) some in omega arith,
+    )
 
 pub returns-clause-first : goal.returns-clause-first
 returns-clause-first g c =

@@ -18,7 +18,7 @@ loop-k-preserved c =
     let kept : length now ≡ length xs = ap length c.loop-k.invariant ∙ length-partly_joined k xs ys equal in
     let read : c.index.result.now ≡ get_or now k 0 = get_or_read now k c.index.result.now (omega (arith, kept, within)) c.index.ensures 0 in
     let sum : c.saturating_add.result ≡ saturated (get_or now k 0 + get_or ys k 0) =
-          c.saturating_add.ensures ∙ ap₂ (λ a b. saturated (a + b)) read (ap (λ zs. get_or zs k 0) others) in
+    c.saturating_add.ensures ∙ ap₂ (λ a b. saturated (a + b)) read (ap (λ zs. get_or zs k 0) others) in
     ap (slice_set now k) sum
     ∙ ap (λ zs. slice_set zs k (saturated (get_or zs k 0 + get_or ys k 0))) c.loop-k.invariant
     ∙ partly_joined-more k xs ys equal within
