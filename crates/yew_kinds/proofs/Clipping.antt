@@ -1,5 +1,5 @@
 -- What the clipped worths say of the worths themselves.
-use Rattle.std.proofs.Common.{◌≡◌, ℕ, zero, suc, ◌<◌, ◌≤◌, max, Bool, true, false, List, [], ◌∷◌, length, slice_index_or, nat_le, nat_lt, ◌==◌, if◌then◌else◌, Any, IsTrue, Option, Some, None, IsSome, IfSome, IsSomeAnd, refl, arith, leb-true, ◌≢◌, ◌↔◌, ap, sym, ◌∙◌}
+use Rattle.std.proofs.Common.{◌≡◌, ℕ, zero, suc, ◌<◌, ◌≤◌, max, true, false, List, [], ◌∷◌, nat_le, ◌==◌, if◌then◌else◌, Any, Option, Some, None, IsSome, IfSome, IsSomeAnd, refl, arith, leb-true, ◌≢◌, ◌↔◌, ap, ◌∙◌}
 use Rattle.std.specs.Option.{option_map}
 use Rattle.std.specs.List.{AllByRecursion}
 use Rattle.std.proofs.lemmas.Bool.Decides.{nat_tests}

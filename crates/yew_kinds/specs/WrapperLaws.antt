@@ -1,6 +1,6 @@
 -- Counted and clipped problems keep the law on bounds.
-use Rattle.std.proofs.Common.{◌≡◌, ℕ, ◌<◌, ◌≤◌, ◌^◌, true, false, List, nat_le, if◌then◌else◌, arith}
-use Rattle.yew_laws.specs.Tree.{node_at, IsBounded}
+use Rattle.std.proofs.Common.{ℕ, ◌≤◌, true, false, List, nat_le, if◌then◌else◌, arith}
+use Rattle.yew_laws.specs.Tree.{IsBounded}
 use Rattle.yew_kinds.specs.Wrappers.{clipped}
 
 pub clipped-small : (target worth : ℕ) → clipped target worth ≤ 1

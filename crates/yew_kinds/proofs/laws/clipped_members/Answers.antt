@@ -1,11 +1,7 @@
-use Rattle.std.proofs.Common.{◌≡◌, ◌<◌, ◌≤◌, ℕ, true, false, Any, IsTrue, IsSome, IfSome, None, Option, ◌==◌, if◌then◌else◌, refl, sym, ◌∙◌, arith}
-use Rattle.std.proofs.lemmas.Bool.Decides.{nat_tests}
-use Rattle.yew_laws.specs.Tree.{Member, node_at}
-use Rattle.yew_laws.specs.Greatest.{greatest_of, first_with, Reach}
+use Rattle.std.proofs.Common.{arith}
 use Rattle.yew_laws.specs.SearchTree.{search_tree, preorder, at_path}
 use Rattle.yew_laws.proofs.Trees.{tree-node_at}
-use Rattle.yew_kinds.specs.Wrappers.{clipped}
-use Rattle.yew_kinds.proofs.Clipping.{greatest_of-clipped, met-from_greatest, greatest-from_met, first_best-meets, first_best-is, option_map-clipped}
+use Rattle.yew_kinds.proofs.Clipping.{greatest_of-clipped, met-from_greatest, greatest-from_met, first_best-meets, first_best-is}
 use Rattle.yew_kinds.proofs.laws.clipped_members.Goals as goal
 
 pub returns-clause-small : goal.returns-clause-small

@@ -1,5 +1,5 @@
 use Rattle.std.proofs.Common.{subst, sym}
-use Rattle.yew_kinds.specs.DepthCounts.{HasCounts, zeros, one_at}
+use Rattle.yew_kinds.specs.DepthCounts.{HasCounts, one_at}
 use Rattle.yew_kinds.specs.DepthLaws.{counts-tally, one_at-fits}
 use Rattle.yew_kinds.proofs.tests.noted.Goals as goal
 

@@ -1,4 +1,4 @@
-use Rattle.std.proofs.Common.{◌≡◌, ◌+◌, ◌<◌, List, ℕ, suc, length, slice_set, slice_index, get_or, ap, ap₂, sym, ◌∙◌, arith}
+use Rattle.std.proofs.Common.{◌≡◌, ◌+◌, ◌<◌, suc, length, slice_set, get_or, ap, ap₂, ◌∙◌, arith}
 use Rattle.std.proofs.lemmas.List.{get_or_read}
 use Rattle.yew_kinds.specs.DepthCounts.{saturated}
 use Rattle.yew_kinds.proofs.JoinedCounts.{partly_joined, partly_joined-more, length-partly_joined}
