@@ -1,0 +1,17 @@
+pub mod Blocks
+pub mod CausesOfCuts
+pub mod Covered
+pub mod Ends
+pub mod Growth
+pub mod Kept
+pub mod LawfulParts
+pub mod Nesting
+pub mod Pieces
+pub mod Places
+pub mod PlainKey
+pub mod PolicyRows
+pub mod SeqLawful
+pub mod SeqLaws
+pub mod SeqUnique
+pub mod Unique
+pub mod Walks

@@ -1,0 +1,17 @@
+pub mod Attained
+pub mod AuditFull
+pub mod AuditText
+pub mod Entries
+pub mod Groups
+pub mod HeldValues
+pub mod Items
+pub mod Lawful
+pub mod Logs
+pub mod Notes
+pub mod Places
+pub mod Policies
+pub mod Recording
+pub mod Segment
+pub mod SeqLog
+pub mod Totals
+pub mod WholeSearch
