@@ -13,5 +13,6 @@ pub mod PolicyRows
 pub mod SeqLawful
 pub mod SeqLaws
 pub mod SeqUnique
+pub mod Texts
 pub mod Unique
 pub mod Walks

@@ -11,8 +11,10 @@ mod entry;
 mod full;
 pub mod laws;
 mod recorder;
+mod text;
 
 pub use counts::Counts;
 pub use entry::{Entry, LogEnd, Totals, What};
 pub use full::Full;
 pub use recorder::Recorder;
+pub use text::audit_text;
