@@ -11,6 +11,8 @@ mod entry;
 mod full;
 pub mod laws;
 mod recorder;
+#[cfg(test)]
+mod tests;
 mod text;
 
 pub use counts::Counts;
