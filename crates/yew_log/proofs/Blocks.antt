@@ -1,5 +1,5 @@
 -- A segment from its parts: how a visit's children are put together, and how a visit is closed.
-use Rattle.std.proofs.Common.{◌≡◌, ◌≢◌, ℕ, suc, ◌+◌, ◌<◌, ◌≤◌, List, [], ◌∷◌, ◌++◌, length, true, false, ◌⊎◌, inl, inr, refl, ap, ap₂, sym, subst, ◌∙◌, append_assoc, append-nil, arith, length-append}
+use Rattle.std.proofs.Common.{◌≡◌, ◌≢◌, ℕ, suc, ◌+◌, ◌<◌, ◌≤◌, List, [], ◌∷◌, ◌++◌, map, length, true, false, ◌⊎◌, inl, inr, refl, ap, ap₂, sym, subst, ◌∙◌, append_assoc, append-nil, arith, length-append}
 use Rattle.std.specs.Prelude.{IsTrue, IsFalse}
 use Rattle.std.specs.List.{AllByRecursion, Contains}
 use Rattle.std.proofs.lemmas.List.{map-append}
@@ -184,6 +184,22 @@ span-spawned path k number host up = record { events = tt; hosts = (record { hos
 -- a child of a path at or above was handed over
 pub span-handed : (path : List ℕ) (k number : ℕ) (host : List ℕ) → AtOrBelow host path → IsSpan path k k (handed (host ++ number ∷ []) ∷ [])
 span-handed path k number host up = record { events = tt; hosts = (record { host = host; number = number; is = refl; near = inl up }, tt); rises = tt; parents = (tt, tt); nests = (tt, tt); ends = (tt, tt) }
+
+-- children of a path at or above were spawned
+pub span-spawned_all : (path : List ℕ) (k : ℕ) (host : List ℕ) → AtOrBelow host path → (children : List (List ℕ)) → AllByRecursion (λ c. (number : ℕ) × (c ≡ host ++ number ∷ [])) children → IsSpan path k k (map spawned children)
+span-spawned_all path k host up [] a = record { events = tt; hosts = tt; rises = tt; parents = tt; nests = tt; ends = tt }
+span-spawned_all path k host up (c ∷ cs) a =
+    span-append path k k k k (spawned c ∷ []) (map spawned cs) (omega arith) (omega arith) (omega arith)
+    (subst (λ q. IsSpan path k k (spawned q ∷ [])) (sym a.0.1) (span-spawned path k a.0.0 host up))
+    (span-spawned_all path k host up cs a.1)
+
+-- children of a path at or above were handed over
+pub span-handed_all : (path : List ℕ) (k : ℕ) (host : List ℕ) → AtOrBelow host path → (children : List (List ℕ)) → AllByRecursion (λ c. (number : ℕ) × (c ≡ host ++ number ∷ [])) children → IsSpan path k k (map handed children)
+span-handed_all path k host up [] a = record { events = tt; hosts = tt; rises = tt; parents = tt; nests = tt; ends = tt }
+span-handed_all path k host up (c ∷ cs) a =
+    span-append path k k k k (handed c ∷ []) (map handed cs) (omega arith) (omega arith) (omega arith)
+    (subst (λ q. IsSpan path k k (handed q ∷ [])) (sym a.0.1) (span-handed path k a.0.0 host up))
+    (span-handed_all path k host up cs a.1)
 
 -- a node that was cut
 pub block-cut : (c : List ℕ) (bound held : ℕ) → IsBlock c (cut c bound held ∷ [])

@@ -6,39 +6,39 @@ use Rattle.std.proofs.lemmas.Nat.{mod_below}
 use Rattle.yew_laws.specs.SearchTree.{SearchTree}
 use Rattle.yew_log.specs.Notes.{Note, taken, visited, cut, spawned, handed, ended, event_in, event_paths, ended_paths}
 use Rattle.yew_log.specs.Groups.{Part, all, part_of, group_of, lowest_left, HasGroups, NoGroup, SkeletonGroup, by_depth, by_budget, by_steal, is_visit_above, is_due_end}
-use Rattle.yew_log.specs.Policies.{Event, visit, cut_off, end, on, spawn, hand, PolicyInput, PolicyMeaning, told, last_act, act_notes, PolicyGroup, HasPolicy, plain_policy, depth_policy, budget_policy, hungry_policy, spending, is_end}
+use Rattle.yew_log.specs.Policies.{Event, visit, cut_off, end, on, spawn, hand, PolicyInput, PolicyMeaning, policy_inputs, last_act, act_notes, PolicyGroup, HasPolicy, plain_policy, depth_policy, budget_policy, hungry_policy, spending, is_end}
 use Rattle.yew_log.proofs.Places.{AtEach-weaker}
 use Rattle.yew_laws.proofs.PathTests.{nat_same, nat-is, suc_not_zero}
 
-abbrev pub told_one : Event → List ℕ → Bool → PolicyInput
-told_one event path wanted = record { event = event; depth = length path; wanted = wanted }
+abbrev pub one_input : Event → List ℕ → Bool → PolicyInput
+one_input event path wanted = record { event = event; depth = length path; wanted = wanted }
 
 -- what a policy is told of an entry, if anything
-abbrev pub told_of : Note → Bool → List PolicyInput
-told_of (visited path w h) wanted = told_one visit path wanted ∷ []
-told_of (cut path b h) wanted = told_one cut_off path wanted ∷ []
-told_of (ended path) wanted = told_one end path wanted ∷ []
-told_of _ wanted = []
+abbrev pub input_of : Note → Bool → List PolicyInput
+input_of (visited path w h) wanted = one_input visit path wanted ∷ []
+input_of (cut path b h) wanted = one_input cut_off path wanted ∷ []
+input_of (ended path) wanted = one_input end path wanted ∷ []
+input_of _ wanted = []
 
 -- with enough answers, one more entry is told of with the next answer
-told-push : (notes : List Note) (note : Note) (answers : List Bool) → length (event_paths notes) < length answers → (wanted : Bool) × (told (notes ++ note ∷ []) answers ≡ told notes answers ++ told_of note wanted)
-told-push [] note [] few = absurd (omega arith)
-told-push [] (taken path) (w ∷ answers) few = (w, refl)
-told-push [] (visited path x h) (w ∷ answers) few = (w, refl)
-told-push [] (cut path b h) (w ∷ answers) few = (w, refl)
-told-push [] (spawned path) (w ∷ answers) few = (w, refl)
-told-push [] (handed path) (w ∷ answers) few = (w, refl)
-told-push [] (ended path) (w ∷ answers) few = (w, refl)
-told-push (n ∷ ns) note [] few = absurd (omega arith)
-told-push (taken path ∷ ns) note (w ∷ answers) few = told-push ns note (w ∷ answers) few
-told-push (spawned path ∷ ns) note (w ∷ answers) few = told-push ns note (w ∷ answers) few
-told-push (handed path ∷ ns) note (w ∷ answers) few = told-push ns note (w ∷ answers) few
-told-push (visited path x h ∷ ns) note (w ∷ answers) few =
-    let r = told-push ns note answers (omega arith) in (r.0, ap (λ ts. told_one visit path w ∷ ts) r.1)
-told-push (cut path b h ∷ ns) note (w ∷ answers) few =
-    let r = told-push ns note answers (omega arith) in (r.0, ap (λ ts. told_one cut_off path w ∷ ts) r.1)
-told-push (ended path ∷ ns) note (w ∷ answers) few =
-    let r = told-push ns note answers (omega arith) in (r.0, ap (λ ts. told_one end path w ∷ ts) r.1)
+policy_inputs-push : (notes : List Note) (note : Note) (answers : List Bool) → length (event_paths notes) < length answers → (wanted : Bool) × (policy_inputs (notes ++ note ∷ []) answers ≡ policy_inputs notes answers ++ input_of note wanted)
+policy_inputs-push [] note [] few = absurd (omega arith)
+policy_inputs-push [] (taken path) (w ∷ answers) few = (w, refl)
+policy_inputs-push [] (visited path x h) (w ∷ answers) few = (w, refl)
+policy_inputs-push [] (cut path b h) (w ∷ answers) few = (w, refl)
+policy_inputs-push [] (spawned path) (w ∷ answers) few = (w, refl)
+policy_inputs-push [] (handed path) (w ∷ answers) few = (w, refl)
+policy_inputs-push [] (ended path) (w ∷ answers) few = (w, refl)
+policy_inputs-push (n ∷ ns) note [] few = absurd (omega arith)
+policy_inputs-push (taken path ∷ ns) note (w ∷ answers) few = policy_inputs-push ns note (w ∷ answers) few
+policy_inputs-push (spawned path ∷ ns) note (w ∷ answers) few = policy_inputs-push ns note (w ∷ answers) few
+policy_inputs-push (handed path ∷ ns) note (w ∷ answers) few = policy_inputs-push ns note (w ∷ answers) few
+policy_inputs-push (visited path x h ∷ ns) note (w ∷ answers) few =
+    let r = policy_inputs-push ns note answers (omega arith) in (r.0, ap (λ ts. one_input visit path w ∷ ts) r.1)
+policy_inputs-push (cut path b h ∷ ns) note (w ∷ answers) few =
+    let r = policy_inputs-push ns note answers (omega arith) in (r.0, ap (λ ts. one_input cut_off path w ∷ ts) r.1)
+policy_inputs-push (ended path ∷ ns) note (w ∷ answers) few =
+    let r = policy_inputs-push ns note answers (omega arith) in (r.0, ap (λ ts. one_input end path w ∷ ts) r.1)
 
 -- the state after these events
 abbrev pub state_after : {Q : Type 0} → PolicyMeaning Q → Q → List PolicyInput → Q
@@ -66,42 +66,42 @@ events-push (ended path ∷ ns) after note whole e some = let r = events-push ns
 
 module _ {N Q : Type 0} (t : SearchTree N) (meaning : PolicyMeaning Q) (state : Q) (answers : List Bool) where
   -- the rule of a table's row, where it holds of the act of the policy in each state that it comes to
-  pub policy-groups : (rule : List Note → Note → List Note → Type 0) (body : List Note) → HasPolicy t meaning state answers body → ((before : List Note) (note : Note) (x : PolicyInput) (wanted : Bool) → length (event_paths before) < length answers → told_of note wanted ≡ x ∷ [] → rule before note (act_notes (meaning.act (state_after meaning (meaning.start state) (told before answers)) x) (lowest_left t (before ++ note ∷ [])))) → HasGroups rule body
+  pub policy-groups : (rule : List Note → Note → List Note → Type 0) (body : List Note) → HasPolicy t meaning state answers body → ((before : List Note) (note : Note) (x : PolicyInput) (wanted : Bool) → length (event_paths before) < length answers → input_of note wanted ≡ x ∷ [] → rule before note (act_notes (meaning.act (state_after meaning (meaning.start state) (policy_inputs before answers)) x) (lowest_left t (before ++ note ∷ [])))) → HasGroups rule body
   policy-groups rule body has each =
       AtEach-weaker (λ before note after. AllByRecursion (λ p. PolicyGroup t meaning state answers before note (group_of after)) (event_in note))
       (λ before note after. AllByRecursion (λ p. rule before note (group_of after)) (event_in note))
       body [] body refl
       (λ before note after e. at before note after e) has.groups
     where
-      by : (before : List Note) (note : Note) (after : List Note) → before ++ note ∷ after ≡ body → 0 < length (event_in note) → ((wanted : Bool) → (x : PolicyInput) × (told_of note wanted ≡ x ∷ [])) → PolicyGroup t meaning state answers before note (group_of after) → rule before note (group_of after)
+      by : (before : List Note) (note : Note) (after : List Note) → before ++ note ∷ after ≡ body → 0 < length (event_in note) → ((wanted : Bool) → (x : PolicyInput) × (input_of note wanted ≡ x ∷ [])) → PolicyGroup t meaning state answers before note (group_of after) → rule before note (group_of after)
       by before note after e some event p =
           let more : length (event_paths before) < length answers = rw has.one_each (events-push before after note body e some) in
-          let pushed = told-push before note answers more in
+          let pushed = policy_inputs-push before note answers more in
           let x = event pushed.0 in
-          let acts : last_act meaning (meaning.start state) (told (before ++ note ∷ []) answers) ≡ meaning.act (state_after meaning (meaning.start state) (told before answers)) x.0
-          = ap (last_act meaning (meaning.start state)) (pushed.1 ∙ ap (λ ts. told before answers ++ ts) x.1) ∙ last_act-push meaning (meaning.start state) (told before answers) x.0 in
+          let acts : last_act meaning (meaning.start state) (policy_inputs (before ++ note ∷ []) answers) ≡ meaning.act (state_after meaning (meaning.start state) (policy_inputs before answers)) x.0
+          = ap (last_act meaning (meaning.start state)) (pushed.1 ∙ ap (λ ts. policy_inputs before answers ++ ts) x.1) ∙ last_act-push meaning (meaning.start state) (policy_inputs before answers) x.0 in
           subst (rule before note) (sym (p ∙ ap (λ act. act_notes act (lowest_left t (before ++ note ∷ []))) acts)) (each before note x.0 pushed.0 more x.1)
 
       at : (before : List Note) (note : Note) (after : List Note) → before ++ note ∷ after ≡ body → AllByRecursion (λ p. PolicyGroup t meaning state answers before note (group_of after)) (event_in note) → AllByRecursion (λ p. rule before note (group_of after)) (event_in note)
-      at before (visited path w h) after e p = (by before (visited path w h) after e (omega arith) (λ wanted. (told_one visit path wanted, refl)) p.0, tt)
-      at before (cut path b h) after e p = (by before (cut path b h) after e (omega arith) (λ wanted. (told_one cut_off path wanted, refl)) p.0, tt)
-      at before (ended path) after e p = (by before (ended path) after e (omega arith) (λ wanted. (told_one end path wanted, refl)) p.0, tt)
+      at before (visited path w h) after e p = (by before (visited path w h) after e (omega arith) (λ wanted. (one_input visit path wanted, refl)) p.0, tt)
+      at before (cut path b h) after e p = (by before (cut path b h) after e (omega arith) (λ wanted. (one_input cut_off path wanted, refl)) p.0, tt)
+      at before (ended path) after e p = (by before (ended path) after e (omega arith) (λ wanted. (one_input end path wanted, refl)) p.0, tt)
       at before (taken path) after e p = tt
       at before (spawned path) after e p = tt
       at before (handed path) after e p = tt
 
 module _ {N : Type 0} (t : SearchTree N) (answers : List Bool) (body : List Note) where
   pub plain-groups : HasPolicy t plain_policy tt answers body → HasGroups NoGroup body
-  plain-groups has = policy-groups t plain_policy tt answers NoGroup body has (λ before note x wanted more told_it. refl)
+  plain-groups has = policy-groups t plain_policy tt answers NoGroup body has (λ before note x wanted more is_input. refl)
 
   depth_state : (d : ℕ) (xs : List PolicyInput) → state_after depth_policy d xs ≡ d
   depth_state d [] = refl
   depth_state d (x ∷ xs) = depth_state d xs
 
-  depth_act : (d : ℕ) (note : Note) (x : PolicyInput) (wanted : Bool) (children : List (List ℕ)) → told_of note wanted ≡ x ∷ [] → act_notes (depth_policy.act d x) children ≡ (if is_visit_above d note then map spawned children else [])
-  depth_act d (visited path w h) x wanted children e = let same : told_one visit path wanted ≡ x = cc in rw (← same) (elim (nat_lt (length path) d) as (λ b. act_notes (if b then spawn all else on) children ≡ (if b then map spawned children else [])) [ true ↦ refl | false ↦ refl ])
-  depth_act d (cut path b h) x wanted children e = let same : told_one cut_off path wanted ≡ x = cc in rw (← same) refl
-  depth_act d (ended path) x wanted children e = let same : told_one end path wanted ≡ x = cc in rw (← same) refl
+  depth_act : (d : ℕ) (note : Note) (x : PolicyInput) (wanted : Bool) (children : List (List ℕ)) → input_of note wanted ≡ x ∷ [] → act_notes (depth_policy.act d x) children ≡ (if is_visit_above d note then map spawned children else [])
+  depth_act d (visited path w h) x wanted children e = let same : one_input visit path wanted ≡ x = cc in rw (← same) (elim (nat_lt (length path) d) as (λ b. act_notes (if b then spawn all else on) children ≡ (if b then map spawned children else [])) [ true ↦ refl | false ↦ refl ])
+  depth_act d (cut path b h) x wanted children e = let same : one_input cut_off path wanted ≡ x = cc in rw (← same) refl
+  depth_act d (ended path) x wanted children e = let same : one_input end path wanted ≡ x = cc in rw (← same) refl
   depth_act d (taken path) x wanted children e = absurd (cc)
   depth_act d (spawned path) x wanted children e = absurd (cc)
   depth_act d (handed path) x wanted children e = absurd (cc)
@@ -109,7 +109,7 @@ module _ {N : Type 0} (t : SearchTree N) (answers : List Bool) (body : List Note
   pub depth-groups : (d : ℕ) → HasPolicy t depth_policy d answers body → HasGroups (SkeletonGroup t (by_depth d)) body
   depth-groups d has =
       policy-groups t depth_policy d answers (SkeletonGroup t (by_depth d)) body has
-      (λ before note x wanted more e. rw (depth_state d (told before answers)) (depth_act d note x wanted (lowest_left t (before ++ note ∷ [])) e))
+      (λ before note x wanted more e. rw (depth_state d (policy_inputs before answers)) (depth_act d note x wanted (lowest_left t (before ++ note ∷ [])) e))
 
   hungry_state : (part : Part) (xs : List PolicyInput) → state_after hungry_policy part xs ≡ part
   hungry_state part [] = refl
@@ -121,22 +121,22 @@ module _ {N : Type 0} (t : SearchTree N) (answers : List Bool) (body : List Note
   pub hungry-groups : (part : Part) → HasPolicy t hungry_policy part answers body → HasGroups (SkeletonGroup t (by_steal part)) body
   hungry-groups part has =
       policy-groups t hungry_policy part answers (SkeletonGroup t (by_steal part)) body has
-      (λ before note x wanted more e. rw (hungry_state part (told before answers)) (hungry_act part x (lowest_left t (before ++ note ∷ []))))
+      (λ before note x wanted more e. rw (hungry_state part (policy_inputs before answers)) (hungry_act part x (lowest_left t (before ++ note ∷ []))))
 
 -- how many of these events are ends
 abbrev pub ends_of : List PolicyInput → ℕ
 ends_of [] = 0
 ends_of (x ∷ xs) = (if is_end x.event then 1 else 0) + ends_of xs
 
-told-ends : (notes : List Note) (answers : List Bool) → length (event_paths notes) < length answers → ends_of (told notes answers) ≡ length (ended_paths notes)
-told-ends [] answers few = refl
-told-ends (n ∷ ns) [] few = absurd (omega arith)
-told-ends (taken path ∷ ns) (w ∷ answers) few = told-ends ns (w ∷ answers) few
-told-ends (spawned path ∷ ns) (w ∷ answers) few = told-ends ns (w ∷ answers) few
-told-ends (handed path ∷ ns) (w ∷ answers) few = told-ends ns (w ∷ answers) few
-told-ends (visited path x h ∷ ns) (w ∷ answers) few = let r = told-ends ns answers (omega arith) in omega arith
-told-ends (cut path b h ∷ ns) (w ∷ answers) few = let r = told-ends ns answers (omega arith) in omega arith
-told-ends (ended path ∷ ns) (w ∷ answers) few = let r = told-ends ns answers (omega arith) in omega arith
+policy_inputs-ends : (notes : List Note) (answers : List Bool) → length (event_paths notes) < length answers → ends_of (policy_inputs notes answers) ≡ length (ended_paths notes)
+policy_inputs-ends [] answers few = refl
+policy_inputs-ends (n ∷ ns) [] few = absurd (omega arith)
+policy_inputs-ends (taken path ∷ ns) (w ∷ answers) few = policy_inputs-ends ns (w ∷ answers) few
+policy_inputs-ends (spawned path ∷ ns) (w ∷ answers) few = policy_inputs-ends ns (w ∷ answers) few
+policy_inputs-ends (handed path ∷ ns) (w ∷ answers) few = policy_inputs-ends ns (w ∷ answers) few
+policy_inputs-ends (visited path x h ∷ ns) (w ∷ answers) few = let r = policy_inputs-ends ns answers (omega arith) in omega arith
+policy_inputs-ends (cut path b h ∷ ns) (w ∷ answers) few = let r = policy_inputs-ends ns answers (omega arith) in omega arith
+policy_inputs-ends (ended path ∷ ns) (w ∷ answers) few = let r = policy_inputs-ends ns answers (omega arith) in omega arith
 
 -- one more, counted round at b
 round : (b n : ℕ) → 0 < b → suc n % b ≡ (if suc (n % b) == b then 0 else suc (n % b))
@@ -186,14 +186,14 @@ full b n pos =
     ap (λ k. k == 0) (round b n pos) ∙ elim (suc (n % b) == b) as (λ v. ((if v then 0 else suc (n % b)) == 0) ≡ v) [ true ↦ refl | false ↦ suc_not_zero (n % b) ]
 
 module _ {N : Type 0} (t : SearchTree N) (answers : List Bool) (body : List Note) (b spent : ℕ) (pos : 0 < b) where
-  budget_act : (before : List Note) (note : Note) (x : PolicyInput) (wanted : Bool) (children : List (List ℕ)) → told_of note wanted ≡ x ∷ [] → act_notes (budget_policy.act (spending b (length (ended_paths before) % b)) x) children ≡ (if is_due_end b before note then map spawned children else [])
+  budget_act : (before : List Note) (note : Note) (x : PolicyInput) (wanted : Bool) (children : List (List ℕ)) → input_of note wanted ≡ x ∷ [] → act_notes (budget_policy.act (spending b (length (ended_paths before) % b)) x) children ≡ (if is_due_end b before note then map spawned children else [])
   budget_act before (ended path) x wanted children e =
-      let same : told_one end path wanted ≡ x = cc in
+      let same : one_input end path wanted ≡ x = cc in
       rw (← same)
       (elim (suc (length (ended_paths before) % b) == b) as (λ v. act_notes (if v then spawn all else on) children ≡ (if v then map spawned children else [])) [ true ↦ refl | false ↦ refl ]
       ∙ ap (λ v. if v then map spawned children else []) (sym (full b (length (ended_paths before)) pos)))
-  budget_act before (visited path w h) x wanted children e = let same : told_one visit path wanted ≡ x = cc in rw (← same) refl
-  budget_act before (cut path v h) x wanted children e = let same : told_one cut_off path wanted ≡ x = cc in rw (← same) refl
+  budget_act before (visited path w h) x wanted children e = let same : one_input visit path wanted ≡ x = cc in rw (← same) refl
+  budget_act before (cut path v h) x wanted children e = let same : one_input cut_off path wanted ≡ x = cc in rw (← same) refl
   budget_act before (taken path) x wanted children e = absurd (cc)
   budget_act before (spawned path) x wanted children e = absurd (cc)
   budget_act before (handed path) x wanted children e = absurd (cc)
@@ -203,5 +203,5 @@ module _ {N : Type 0} (t : SearchTree N) (answers : List Bool) (body : List Note
       policy-groups t budget_policy (spending b spent) answers (SkeletonGroup t (by_budget b)) body has
       (λ before note x wanted more e.
       subst (λ s. act_notes (budget_policy.act s x) (lowest_left t (before ++ note ∷ [])) ≡ (if is_due_end b before note then map spawned (lowest_left t (before ++ note ∷ [])) else []))
-      (sym (budget_after b (told before answers) pos ∙ ap (λ k. spending b (k % b)) (told-ends before answers more)))
+      (sym (budget_after b (policy_inputs before answers) pos ∙ ap (λ k. spending b (k % b)) (policy_inputs-ends before answers more)))
       (budget_act before note x wanted (lowest_left t (before ++ note ∷ [])) e))

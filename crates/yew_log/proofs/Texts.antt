@@ -1,5 +1,5 @@
 -- The text of the logs of workers, one log longer.
-use Rattle.std.proofs.Common.{◌≡◌, ℕ, suc, ◌+◌, ◌<◌, List, [], ◌∷◌, ◌++◌, map, length, take, get_or, refl, ap, ap₂, sym, ◌∙◌, append_assoc, append-nil, arith, length-append, length-take}
+use Rattle.std.proofs.Common.{◌≡◌, ℕ, suc, ◌+◌, ◌<◌, List, [], ◌∷◌, ◌++◌, map, length, take, get_or, ap, sym, ◌∙◌, append_assoc, append-nil, arith, length-take}
 use Rattle.std.proofs.lemmas.List.{map-append, take_more, length-map}
 use Rattle.yew_log.specs.Notes.{Note}
 use Rattle.yew_log.specs.AuditText.{worker_text, workers_text}

@@ -1,38 +1,45 @@
--- An audit that ended late: a log that had no room for a further entry.
-use Rattle.std.specs.Prelude.{◌≡◌, ◌≢◌, ℕ, ◌<◌, ◌^◌, ◌⊎◌, List, [], length, Some, IsSome}
-use Rattle.std.specs.List.{AllByRecursion}
-use Rattle.yew_log.specs.Places.{AtEach}
-use Rattle.yew_laws.specs.SearchTree.{SearchTree, at_path}
-use Rattle.yew_log.specs.Notes.{Note, path_of, path_numbers, taken_paths, visited_paths, cut_paths, spawned_paths, handed_paths, ended_paths}
-use Rattle.yew_log.specs.Groups.{Skeleton}
+-- An audit that could not be kept: a log that had no room for its next entry.
+use Rattle.std.specs.Prelude.{◌≡◌, ℕ, ◌<◌, ◌≤◌, ◌^◌, ◌⊎◌, List, [], ◌∷◌, ◌++◌, length, Some, IsSome}
+use Rattle.std.specs.List.{AllByRecursion, sum_by}
+use Rattle.yew_laws.specs.Order.{occurs}
+use Rattle.yew_laws.specs.SearchTree.{SearchTree, at_path, tree_paths}
+use Rattle.yew_log.specs.Notes.{Note, judgements, paths, path_of, path_numbers, taken_paths, sent_paths, ended_paths}
+use Rattle.yew_log.specs.Groups.{Skeleton, sequential}
 use Rattle.yew_log.specs.HeldValues.{HeldIsMaximum}
 use Rattle.yew_log.specs.Lawful.{key_kind_of, IsBrokenLog}
 use Rattle.yew_log.specs.Recording.{IsFull}
+use Rattle.yew_log.specs.SeqLog.{seq_log}
 
--- no path stands twice
+-- no path occurs twice
 abbrev pub IsOnce : List (List ℕ) → Type 0
-IsOnce ps = AtEach (λ before p after. AllByRecursion (λ q. q ≢ p) before) [] ps
+IsOnce ps = (path : List ℕ) → occurs path ps ≤ 1
 
--- entries that meet the limits of a log that tells them
+-- entries that no log that tells its entries has room for
 abbrev pub MeetsLimits : List Note → Type 0
 MeetsLimits notes = (2 ^ 18 < length notes) ⊎ (2 ^ 22 < path_numbers notes)
 
--- no path has two entries of one kind, and none is both visited and cut
+-- no path is taken twice, visited or cut twice, spawned or handed over twice, or ended twice
 pub record OneOfAKind (notes : List Note) : Type 0 where
   pub taken_once : IsOnce (taken_paths notes)
-  pub visited_once : IsOnce (visited_paths notes)
-  pub cut_once : IsOnce (cut_paths notes)
-  pub spawned_once : IsOnce (spawned_paths notes)
-  pub handed_once : IsOnce (handed_paths notes)
+  pub judged_once : IsOnce (paths (judgements notes))
+  pub sent_once : IsOnce (sent_paths notes)
   pub ended_once : IsOnce (ended_paths notes)
-  pub visited_or_cut : AllByRecursion (λ c. AllByRecursion (λ v. v ≢ c) (visited_paths notes)) (cut_paths notes)
 
--- the log behind the answer that the audit is full, with its two numbers, in a search of so many workers
+-- the log behind the answer that the audit is full, with its two numbers, in a search of so many workers; with the next entry, for which it has no room, its paths are still paths of the tree, and no path has two entries of a kind
 pub record IsAuditFull {N : Type 0} (t : SearchTree N) (gap : ℕ) (skeleton : Skeleton) (workers entries numbers : ℕ) : Type 0 where
   pub notes : List Note
-  pub next : List ℕ
-  pub filled : IsFull (Some notes) next entries numbers
-  pub in_tree : AllByRecursion (λ note. IsSome (at_path t (path_of note))) notes
-  pub one_of_a_kind : OneOfAKind notes
+  pub next : Note
+  pub full : IsFull (Some notes) (path_of next) entries numbers
+  pub in_tree : AllByRecursion (λ note. IsSome (at_path t (path_of note))) (notes ++ next ∷ [])
+  pub one_of_a_kind : OneOfAKind (notes ++ next ∷ [])
   pub keeps : IsBrokenLog t gap (key_kind_of skeleton) notes
   pub alone : workers ≡ 1 → HeldIsMaximum notes
+  pub sequential_next : skeleton ≡ sequential → (rest : List Note) × (seq_log t gap ≡ notes ++ next ∷ rest)
+
+-- how many numbers these paths have together
+abbrev pub path_lengths : List (List ℕ) → ℕ
+path_lengths ps = sum_by (λ path. length path) ps
+
+-- a tree of more than 2^16 nodes, or whose paths have more than 2^20 numbers together
+abbrev pub IsLarge : {N : Type 0} → SearchTree N → Type 0
+IsLarge t = (2 ^ 16 < length (tree_paths t)) ⊎ (2 ^ 20 < path_lengths (tree_paths t))

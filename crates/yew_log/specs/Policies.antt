@@ -29,15 +29,15 @@ pub record PolicyMeaning (Q : Type 0) : Type 0 where
   pub after : Q → PolicyInput → Q
 
 -- the Visited, Cut and Ended entries in order, each with the answer of this list
-abbrev pub told : List Note → List Bool → List PolicyInput
-told [] answers = []
-told (note ∷ notes) [] = []
-told (visited path worth held ∷ notes) (wanted ∷ answers) = record { event = visit; depth = length path; wanted = wanted } ∷ told notes answers
-told (cut path bound held ∷ notes) (wanted ∷ answers) = record { event = cut_off; depth = length path; wanted = wanted } ∷ told notes answers
-told (ended path ∷ notes) (wanted ∷ answers) = record { event = end; depth = length path; wanted = wanted } ∷ told notes answers
-told (taken path ∷ notes) (wanted ∷ answers) = told notes (wanted ∷ answers)
-told (spawned path ∷ notes) (wanted ∷ answers) = told notes (wanted ∷ answers)
-told (handed path ∷ notes) (wanted ∷ answers) = told notes (wanted ∷ answers)
+abbrev pub policy_inputs : List Note → List Bool → List PolicyInput
+policy_inputs [] answers = []
+policy_inputs (note ∷ notes) [] = []
+policy_inputs (visited path worth held ∷ notes) (wanted ∷ answers) = record { event = visit; depth = length path; wanted = wanted } ∷ policy_inputs notes answers
+policy_inputs (cut path bound held ∷ notes) (wanted ∷ answers) = record { event = cut_off; depth = length path; wanted = wanted } ∷ policy_inputs notes answers
+policy_inputs (ended path ∷ notes) (wanted ∷ answers) = record { event = end; depth = length path; wanted = wanted } ∷ policy_inputs notes answers
+policy_inputs (taken path ∷ notes) (wanted ∷ answers) = policy_inputs notes (wanted ∷ answers)
+policy_inputs (spawned path ∷ notes) (wanted ∷ answers) = policy_inputs notes (wanted ∷ answers)
+policy_inputs (handed path ∷ notes) (wanted ∷ answers) = policy_inputs notes (wanted ∷ answers)
 
 -- the act after the last of these events
 abbrev pub last_act : {Q : Type 0} → PolicyMeaning Q → Q → List PolicyInput → Act
@@ -54,7 +54,7 @@ act_notes (hand part) children = map handed (part_of part children)
 -- the group that a policy asks for at a place, where the events so far had these answers
 abbrev pub PolicyGroup : {N Q : Type 0} → SearchTree N → PolicyMeaning Q → Q → List Bool → List Note → Note → List Note → Type 0
 PolicyGroup t meaning state answers before event group =
-    group ≡ act_notes (last_act meaning (meaning.start state) (told (before ++ event ∷ []) answers)) (lowest_left t (before ++ event ∷ []))
+    group ≡ act_notes (last_act meaning (meaning.start state) (policy_inputs (before ++ event ∷ []) answers)) (lowest_left t (before ++ event ∷ []))
 
 -- a segment's body has the groups of a policy: some answers, one for each visit, cut and end, incumbent to them
 pub record HasPolicy {N Q : Type 0} (t : SearchTree N) (meaning : PolicyMeaning Q) (state : Q) (answers : List Bool) (body : List Note) : Type 0 where

@@ -1,10 +1,12 @@
 //! The laws of logs. Each function is a law: it does nothing, and its contract is proved once for all that cite it.
 
-ghost use Rattle.std.specs.Prelude.{◌≡◌, ℕ, List};
+ghost use Rattle.std.specs.Prelude.{◌≡◌, ◌<◌, ℕ, Bool, List};
 ghost use Rattle.yew_laws.specs.SearchTree.{search_tree};
-ghost use Rattle.yew_log.specs.Groups.{sequential};
+ghost use Rattle.yew_log.specs.AuditFull.{IsAuditFull, IsLarge};
+ghost use Rattle.yew_log.specs.Groups.{Part, Skeleton, sequential, by_depth, by_budget, by_steal, HasGroups, NoGroup, SkeletonGroup};
 ghost use Rattle.yew_log.specs.Lawful.{LawfulLog};
 ghost use Rattle.yew_log.specs.Notes.{Note};
+ghost use Rattle.yew_log.specs.Policies.{HasPolicy, plain_policy, depth_policy, spending, budget_policy, hungry_policy};
 ghost use Rattle.yew_log.specs.SeqLog.{seq_log};
 
 use yew_laws::Problem;
@@ -16,6 +18,31 @@ pub fn seq_log_is_lawful<P: Problem>(problem: &P)
         LawfulLog t gap sequential 1 1 (seq_log t gap) }
     ensures only { (gap workers number : ℕ) (notes : List Note) → let t = search_tree P.Problem problem.now in
         LawfulLog t gap sequential workers number notes → notes ≡ seq_log t gap }
+{
+    let _ = problem;
+}
+
+/// A policy that never asks for tasks has no groups, and the policies of the skeletons that share out tasks while they
+/// walk have the groups of those skeletons: after each visit above a depth, after each full count of ends, or wherever
+/// tasks were wanted.
+pub fn policies_have_groups<P: Problem>(problem: &P)
+    ensures plain { (answers : List Bool) (body : List Note) → let t = search_tree P.Problem problem.now in
+        HasPolicy t plain_policy tt answers body → HasGroups NoGroup body }
+    ensures depth { (depth : ℕ) (answers : List Bool) (body : List Note) → let t = search_tree P.Problem problem.now in
+        HasPolicy t depth_policy depth answers body → HasGroups (SkeletonGroup t (by_depth depth)) body }
+    ensures budget { (every spent : ℕ) (answers : List Bool) (body : List Note) → let t = search_tree P.Problem problem.now in
+        0 < every → HasPolicy t budget_policy (spending every spent) answers body → HasGroups (SkeletonGroup t (by_budget every)) body }
+    ensures hungry { (part : Part) (answers : List Bool) (body : List Note) → let t = search_tree P.Problem problem.now in
+        HasPolicy t hungry_policy part answers body → HasGroups (SkeletonGroup t (by_steal part)) body }
+{
+    let _ = problem;
+}
+
+/// A log is full only where the tree has more than 2^16 nodes, or its paths have more than 2^20 numbers together.
+pub fn full_audits_are_of_large_trees<P: Problem>(problem: &P)
+    requires { P.sound problem.now (P.root problem.now) }
+    ensures { (gap workers entries numbers : ℕ) (skeleton : Skeleton) → let t = search_tree P.Problem problem.now in
+        IsAuditFull t gap skeleton workers entries numbers → IsLarge t }
 {
     let _ = problem;
 }

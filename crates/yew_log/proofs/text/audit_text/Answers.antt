@@ -1,7 +1,7 @@
-use Rattle.std.proofs.Common.{◌<◌, ◌+◌, length, arith, ap, ap₂, sym, ◌∙◌, append_assoc, ◌++◌}
+use Rattle.std.proofs.Common.{◌<◌, ◌+◌, length, arith, ap, sym, ◌∙◌, ◌++◌}
 use Rattle.std.specs.Prelude.{codes}
 use Rattle.yew_lines.specs.Spelling.{line}
-use Rattle.yew_log.specs.AuditText.{workers_text, worker_text}
+use Rattle.yew_log.specs.AuditText.{worker_text}
 use Rattle.yew_log.specs.Logs.{FullLog}
 use Rattle.yew_log.proofs.Texts.{workers_text-take}
 use Rattle.yew_log.proofs.text.audit_text.Goals as goal
