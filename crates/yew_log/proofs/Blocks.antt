@@ -1,17 +1,21 @@
 -- A segment from its parts: how a visit's children are put together, and how a visit is closed.
-use Rattle.std.proofs.Common.{◌≡◌, ◌≢◌, ℕ, suc, ◌+◌, ◌<◌, ◌≤◌, List, [], ◌∷◌, ◌++◌, map, length, true, false, ◌⊎◌, inl, inr, refl, ap, ap₂, sym, subst, ◌∙◌, append_assoc, append-nil, arith, length-append}
+use Rattle.std.proofs.Common.{◌≡◌, ◌≢◌, ℕ, zero, suc, ◌+◌, ◌<◌, ◌≤◌, List, [], ◌∷◌, ◌++◌, map, length, true, false, cond, ◌⊎◌, inl, inr, refl, ap, ap₂, sym, subst, ◌∙◌, append_assoc, append-nil, arith, length-append}
 use Rattle.std.specs.Prelude.{IsTrue, IsFalse}
 use Rattle.std.specs.List.{AllByRecursion, Contains}
 use Rattle.std.proofs.lemmas.List.{map-append}
 use Rattle.std.proofs.lemmas.List.Concat.{flat_map-append}
+use Rattle.std.proofs.lemmas.List.Sums.{sum_by-cons}
 use Rattle.yew_laws.proofs.Members.{AllByRecursion-append, AllByRecursion-weaker, Contains-head, Contains-tail}
 use Rattle.yew_log.specs.Places.{AtEach}
-use Rattle.yew_laws.specs.Order.{comes_before, lies_below, is_child, is_path, parent_of}
+use Rattle.yew_laws.specs.Order.{comes_before, lies_below, is_child, is_path, parent_of, only, occurs}
 use Rattle.yew_log.specs.Notes.{Note, taken, visited, cut, spawned, handed, ended, Judgement, paths, visits, judgements, judgement_in, visit_in, ended_in, event_in, sent_in, visited_paths, sent_paths, ended_paths, event_paths}
-use Rattle.yew_log.specs.Segment.{Nests, EndsVisits, Rise, EachJudged, HasParent}
+use Rattle.yew_log.specs.Segment.{IsOnce, Nests, EndsVisits, Rise, EachJudged, HasParent}
 use Rattle.yew_log.proofs.Places.{AtEach-append, AtEach-join}
-use Rattle.yew_laws.proofs.PathTests.{is_path-is, below-itself, not-below-up, apart-below, apart-child, apart-path, is_path-not, not_child-long, before-itself, before-siblings, parent_of-push}
+use Rattle.yew_laws.proofs.PathTests.{is_path-same, is_path-is, below-itself, not-below-up, apart-below, apart-child, apart-path, is_path-not, not_child-long, before-itself, before-siblings, parent_of-push}
 use Rattle.yew_laws.proofs.Below.{AtOrBelow, InChild, wider, in_child}
+use Rattle.yew_laws.proofs.Bags.{only-other}
+use Rattle.yew_laws.proofs.Weights.{all-weighs}
+use Rattle.yew_log.proofs.Ends.{ends-weigh}
 use Rattle.yew_log.proofs.Nesting.{Apart, Nests-append, Nests-close, all-flat}
 
 -- p is a child of a path at or above this one, or of a path at or below its children of this range
@@ -40,6 +44,7 @@ pub record IsSpan (path : List ℕ) (low high : ℕ) (notes : List Note) : Type 
   pub parents : EachJudged (HasParentBelow path) notes
   pub nests : Nests notes
   pub ends : EndsVisits notes
+  pub ends_once : IsOnce (ended_paths notes)
 
 -- all entries of a node and of what was done below it
 pub record IsBlock (c : List ℕ) (notes : List Note) : Type 0 where
@@ -49,8 +54,9 @@ pub record IsBlock (c : List ℕ) (notes : List Note) : Type 0 where
   pub parents : EachJudged (HasParent c) notes
   pub nests : Nests notes
   pub ends : EndsVisits notes
+  pub ends_once : IsOnce (ended_paths notes)
 
-judgements-from_events : (P : List ℕ → Type 0) (notes : List Note) → AllByRecursion P (event_paths notes) → AllByRecursion P (paths (judgements notes))
+pub judgements-from_events : (P : List ℕ → Type 0) (notes : List Note) → AllByRecursion P (event_paths notes) → AllByRecursion P (paths (judgements notes))
 judgements-from_events P [] a = tt
 judgements-from_events P (taken path ∷ ns) a = judgements-from_events P ns a
 judgements-from_events P (spawned path ∷ ns) a = judgements-from_events P ns a
@@ -151,43 +157,76 @@ ends-shift more before note a =
     AllByRecursion-weaker (λ p. Contains (visited_paths before) p) (λ p. Contains (visited_paths (more ++ before)) p) (λ p c. visited-shift more before p c) (ended_in note) a
 
 -- nothing was done yet
-pub span-nothing : (path : List ℕ) → IsSpan path 0 0 []
-span-nothing path = record { events = tt; hosts = tt; rises = tt; parents = tt; nests = tt; ends = tt }
+pub span-none : (path : List ℕ) (low high : ℕ) → IsSpan path low high []
+span-none path low high = record { events = tt; hosts = tt; rises = tt; parents = tt; nests = tt; ends = tt; ends_once = λ p. omega arith }
 
--- what was done of later children comes behind
-pub span-append : (path : List ℕ) (a b c d : ℕ) (xs ys : List Note) → a ≤ b → b ≤ c → c ≤ d → IsSpan path a b xs → IsSpan path c d ys → IsSpan path a d (xs ++ ys)
-span-append path a b c d xs ys ab bc cd s r = record {
-  events = all-flat (InChild path a d) event_in xs ys
-      (AllByRecursion-weaker (InChild path a b) (InChild path a d) (wider path a b a d (omega arith) (omega arith)) (event_paths xs) s.events)
-      (AllByRecursion-weaker (InChild path c d) (InChild path a d) (wider path c d a d (omega arith) (omega arith)) (event_paths ys) r.events);
-  hosts = all-flat (IsNear path a d) sent_in xs ys
-      (AllByRecursion-weaker (IsNear path a b) (IsNear path a d) (wider-near path a b a d (omega arith) (omega arith)) (sent_paths xs) s.hosts)
-      (AllByRecursion-weaker (IsNear path c d) (IsNear path a d) (wider-near path c d a d (omega arith) (omega arith)) (sent_paths ys) r.hosts);
-  rises = subst Rise (sym (judgement_paths-append xs ys)) (Rise-append (paths (judgements xs)) (paths (judgements ys)) s.rises r.rises
+pub span-nothing : (path : List ℕ) → IsSpan path 0 0 []
+span-nothing path = span-none path 0 0
+
+-- the parts of two lists of entries of children, of which the second are later children
+module _ (path : List ℕ) (a b c d : ℕ) (xs ys : List Note) (ab : a ≤ b) (bc : b ≤ c) (cd : c ≤ d) (first : AllByRecursion (InChild path a b) (event_paths xs)) (second : AllByRecursion (InChild path c d) (event_paths ys)) where
+  pub events-join : AllByRecursion (InChild path a d) (event_paths (xs ++ ys))
+  events-join =
+      all-flat (InChild path a d) event_in xs ys
+      (AllByRecursion-weaker (InChild path a b) (InChild path a d) (wider path a b a d (omega arith) (omega arith)) (event_paths xs) first)
+      (AllByRecursion-weaker (InChild path c d) (InChild path a d) (wider path c d a d (omega arith) (omega arith)) (event_paths ys) second)
+
+  pub rises-join : Rise (paths (judgements xs)) → Rise (paths (judgements ys)) → Rise (paths (judgements (xs ++ ys)))
+  rises-join r s =
+      subst Rise (sym (judgement_paths-append xs ys)) (Rise-append (paths (judgements xs)) (paths (judgements ys)) r s
       (AllByRecursion-weaker (InChild path c d) (λ y. AllByRecursion (λ x. IsTrue (comes_before x y)) (paths (judgements xs)))
       (λ y v. AllByRecursion-weaker (InChild path a b) (λ x. IsTrue (comes_before x y))
       (λ x u. let less : u.number < v.number = let e = u.below in let f = v.from in omega arith in
       ap₂ comes_before u.is v.is ∙ before-siblings path u.number u.rest v.number v.rest less)
-      (paths (judgements xs)) (judgements-from_events (InChild path a b) xs s.events))
-      (paths (judgements ys)) (judgements-from_events (InChild path c d) ys r.events)));
-  parents = AtEach-join (λ before note. AllByRecursion (HasParentBelow path before) (judgement_in note)) xs ys (parents-shift path xs) s.parents r.parents;
+      (paths (judgements xs)) (judgements-from_events (InChild path a b) xs first))
+      (paths (judgements ys)) (judgements-from_events (InChild path c d) ys second)))
+
+  pub once-join : IsOnce (ended_paths xs) → IsOnce (ended_paths ys) → IsOnce (ended_paths (xs ++ ys))
+  once-join r s p = let w = ends-weigh p xs ys in let both = by (occurs p (ended_paths xs)) (occurs p (ended_paths ys)) refl refl in omega arith
+    where
+      by : (m n : ℕ) → occurs p (ended_paths xs) ≡ m → occurs p (ended_paths ys) ≡ n → occurs p (ended_paths xs) + occurs p (ended_paths ys) ≤ 1
+      by zero n e f = let h = s p in omega arith
+      by (suc m) zero e f = let h = r p in omega arith
+      by (suc m) (suc n) e f =
+          let u = all-weighs is_path is_path-same is_path-is (InChild path a b) (ended_paths xs) p (ended-from_events (InChild path a b) xs first) (omega arith) in
+          let v = all-weighs is_path is_path-same is_path-is (InChild path c d) (ended_paths ys) p (ended-from_events (InChild path c d) ys second) (omega arith) in
+          absurd (apart-end path a b c d (λ i j e1 e2 e3 e4 same. absurd (omega arith)) p u p v refl)
+
+pub parents-join : (path : List ℕ) (xs ys : List Note) → EachJudged (HasParentBelow path) xs → EachJudged (HasParentBelow path) ys → EachJudged (HasParentBelow path) (xs ++ ys)
+parents-join path xs ys r s =
+    AtEach-join (λ before note. AllByRecursion (HasParentBelow path before) (judgement_in note)) xs ys (parents-shift path xs) r s
+
+pub ends-join : (xs ys : List Note) → EndsVisits xs → EndsVisits ys → EndsVisits (xs ++ ys)
+ends-join xs ys r s =
+    AtEach-join (λ before note. AllByRecursion (λ p. Contains (visited_paths before) p) (ended_in note)) xs ys (ends-shift xs) r s
+
+-- what was done of later children comes behind
+pub span-append : (path : List ℕ) (a b c d : ℕ) (xs ys : List Note) → a ≤ b → b ≤ c → c ≤ d → IsSpan path a b xs → IsSpan path c d ys → IsSpan path a d (xs ++ ys)
+span-append path a b c d xs ys ab bc cd s r = record {
+  events = events-join path a b c d xs ys ab bc cd s.events r.events;
+  hosts = all-flat (IsNear path a d) sent_in xs ys
+      (AllByRecursion-weaker (IsNear path a b) (IsNear path a d) (wider-near path a b a d (omega arith) (omega arith)) (sent_paths xs) s.hosts)
+      (AllByRecursion-weaker (IsNear path c d) (IsNear path a d) (wider-near path c d a d (omega arith) (omega arith)) (sent_paths ys) r.hosts);
+  rises = rises-join path a b c d xs ys ab bc cd s.events r.events s.rises r.rises;
+  parents = parents-join path xs ys s.parents r.parents;
   nests = Nests-append xs ys s.nests r.nests
       (AllByRecursion-weaker (InChild path a b) (λ p. Apart p ys) (apart-span path a b c d (λ i j e f g h same. absurd (omega arith)) ys r.events r.hosts) (visited_paths xs) (visited-from_events (InChild path a b) xs s.events))
       (AllByRecursion-weaker (InChild path c d) (λ p. Apart p xs) (apart-span path c d a b (λ i j e f g h same. absurd (omega arith)) xs s.events s.hosts) (visited_paths ys) (visited-from_events (InChild path c d) ys r.events));
-  ends = AtEach-join (λ before note. AllByRecursion (λ p. Contains (visited_paths before) p) (ended_in note)) xs ys (ends-shift xs) s.ends r.ends;
+  ends = ends-join xs ys s.ends r.ends;
+  ends_once = once-join path a b c d xs ys ab bc cd s.events r.events s.ends_once r.ends_once;
 }
 
 -- a child of a path at or above was spawned
 pub span-spawned : (path : List ℕ) (k number : ℕ) (host : List ℕ) → AtOrBelow host path → IsSpan path k k (spawned (host ++ number ∷ []) ∷ [])
-span-spawned path k number host up = record { events = tt; hosts = (record { host = host; number = number; is = refl; near = inl up }, tt); rises = tt; parents = (tt, tt); nests = (tt, tt); ends = (tt, tt) }
+span-spawned path k number host up = record { events = tt; hosts = (record { host = host; number = number; is = refl; near = inl up }, tt); rises = tt; parents = (tt, tt); nests = (tt, tt); ends = (tt, tt); ends_once = λ p. omega arith }
 
 -- a child of a path at or above was handed over
 pub span-handed : (path : List ℕ) (k number : ℕ) (host : List ℕ) → AtOrBelow host path → IsSpan path k k (handed (host ++ number ∷ []) ∷ [])
-span-handed path k number host up = record { events = tt; hosts = (record { host = host; number = number; is = refl; near = inl up }, tt); rises = tt; parents = (tt, tt); nests = (tt, tt); ends = (tt, tt) }
+span-handed path k number host up = record { events = tt; hosts = (record { host = host; number = number; is = refl; near = inl up }, tt); rises = tt; parents = (tt, tt); nests = (tt, tt); ends = (tt, tt); ends_once = λ p. omega arith }
 
 -- children of a path at or above were spawned
 pub span-spawned_all : (path : List ℕ) (k : ℕ) (host : List ℕ) → AtOrBelow host path → (children : List (List ℕ)) → AllByRecursion (λ c. (number : ℕ) × (c ≡ host ++ number ∷ [])) children → IsSpan path k k (map spawned children)
-span-spawned_all path k host up [] a = record { events = tt; hosts = tt; rises = tt; parents = tt; nests = tt; ends = tt }
+span-spawned_all path k host up [] a = span-none path k k
 span-spawned_all path k host up (c ∷ cs) a =
     span-append path k k k k (spawned c ∷ []) (map spawned cs) (omega arith) (omega arith) (omega arith)
     (subst (λ q. IsSpan path k k (spawned q ∷ [])) (sym a.0.1) (span-spawned path k a.0.0 host up))
@@ -195,7 +234,7 @@ span-spawned_all path k host up (c ∷ cs) a =
 
 -- children of a path at or above were handed over
 pub span-handed_all : (path : List ℕ) (k : ℕ) (host : List ℕ) → AtOrBelow host path → (children : List (List ℕ)) → AllByRecursion (λ c. (number : ℕ) × (c ≡ host ++ number ∷ [])) children → IsSpan path k k (map handed children)
-span-handed_all path k host up [] a = record { events = tt; hosts = tt; rises = tt; parents = tt; nests = tt; ends = tt }
+span-handed_all path k host up [] a = span-none path k k
 span-handed_all path k host up (c ∷ cs) a =
     span-append path k k k k (handed c ∷ []) (map handed cs) (omega arith) (omega arith) (omega arith)
     (subst (λ q. IsSpan path k k (handed q ∷ [])) (sym a.0.1) (span-handed path k a.0.0 host up))
@@ -210,6 +249,7 @@ block-cut c bound held = record {
   parents = ((λ ne. absurd (ne refl), tt), tt);
   nests = (tt, tt);
   ends = (tt, tt);
+  ends_once = λ p. omega arith;
 }
 
 -- a block of a child is a span of that child alone
@@ -251,6 +291,13 @@ at_each-weaker : (P Q : List Note → Note → Type 0) (before notes : List Note
 at_each-weaker P Q before [] f a = tt
 at_each-weaker P Q before (n ∷ ns) f a = (f before n a.0, at_each-weaker P Q (before ++ n ∷ []) ns f a.1)
 
+-- the same of what was done of a child as far as it goes
+pub open-span : (path : List ℕ) (k : ℕ) (notes : List Note) → AllByRecursion (AtOrBelow (path ++ k ∷ [])) (event_paths notes) → EachJudged (HasParent (path ++ k ∷ [])) notes → AllByRecursion (InChild path k (suc k)) (event_paths notes) × EachJudged (HasParentBelow path) notes
+open-span path k notes events parents = (
+  AllByRecursion-weaker (AtOrBelow (path ++ k ∷ [])) (InChild path k (suc k)) (in_child path k) (event_paths notes) events,
+  at_each-weaker (λ b n. AllByRecursion (HasParent (path ++ k ∷ []) b) (judgement_in n)) (λ b n. AllByRecursion (HasParentBelow path b) (judgement_in n)) [] notes (λ b n. parents_child path k b (judgement_in n)) parents,
+)
+
 pub span-block : (path : List ℕ) (k : ℕ) (notes : List Note) → IsBlock (path ++ k ∷ []) notes → IsSpan path k (suc k) notes
 span-block path k notes s = record {
   events = AllByRecursion-weaker (AtOrBelow (path ++ k ∷ [])) (InChild path k (suc k)) (in_child path k) (event_paths notes) s.events;
@@ -259,7 +306,11 @@ span-block path k notes s = record {
   parents = at_each-weaker (λ b n. AllByRecursion (HasParent (path ++ k ∷ []) b) (judgement_in n)) (λ b n. AllByRecursion (HasParentBelow path b) (judgement_in n)) [] notes (λ b n. parents_child path k b (judgement_in n)) s.parents;
   nests = s.nests;
   ends = s.ends;
+  ends_once = s.ends_once;
 }
+
+only-le : (p q : List ℕ) → only p q ≤ 1
+only-le p q = elim (is_path p q) as (λ b. cond b 1 0 ≤ 1) [ true ↦ omega arith | false ↦ omega arith ]
 
 -- a visit with all that was done below it, closed by its end
 module _ (c : List ℕ) (k worth held : ℕ) (inside : List Note) (s : IsSpan c 0 k inside) where
@@ -335,5 +386,22 @@ module _ (c : List ℕ) (k worth held : ℕ) (inside : List Note) (s : IsSpan c 
       not_same : (p : List ℕ) → InChild c 0 k p → p ≢ c
       not_same p u e = let n = ap length u.is ∙ length-append c (u.number ∷ u.rest) in let m = ap length e in absurd (omega (arith, n, m))
 
+  once_close : IsOnce (ended_paths (visited c worth held ∷ (inside ++ ended c ∷ [])))
+  once_close p =
+      let w = ends-weigh p inside (ended c ∷ []) in
+      let one = sum_by-cons (only p) c [] in
+      let h = s.ends_once p in
+      let both = by (occurs p (ended_paths inside)) refl in
+      omega arith
+    where
+      by : (n : ℕ) → occurs p (ended_paths inside) ≡ n → occurs p (ended_paths inside) + only p c ≤ 1
+      by zero e = let le = only-le p c in omega arith
+      by (suc n) e =
+          let u = all-weighs is_path is_path-same is_path-is (InChild c 0 k) (ended_paths inside) p (ended-from_events (InChild c 0 k) inside s.events) (omega arith) in
+          let differs : c ≢ p = λ same. (let x = ap length u.is ∙ length-append c (u.number ∷ u.rest) in let y = ap length same in absurd (omega (arith, x, y))) in
+          let none = only-other p c differs in
+          let h = s.ends_once p in
+          omega arith
+
   pub block-close : IsBlock c (visited c worth held ∷ (inside ++ ended c ∷ []))
-  block-close = record { events = (itself, events_close); hosts = hosts_close; rises = rises_close; parents = parents_close; nests = nests_close; ends = ends_close }
+  block-close = record { events = (itself, events_close); hosts = hosts_close; rises = rises_close; parents = parents_close; nests = nests_close; ends = ends_close; ends_once = once_close }

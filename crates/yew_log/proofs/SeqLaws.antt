@@ -19,7 +19,7 @@ use Rattle.yew_log.proofs.Places.{AtEach-append}
 use Rattle.yew_laws.proofs.Bags.{same-append, same-trans, same-is}
 use Rattle.yew_laws.proofs.Below.{child-at, below-unfolds}
 use Rattle.yew_log.proofs.Nesting.{all-flat}
-use Rattle.yew_log.proofs.Blocks.{IsBlock, IsSpan, span-nothing, span-append, span-block, block-cut, block-close}
+use Rattle.yew_log.proofs.Blocks.{IsBlock, IsSpan, span-none, span-append, span-block, block-cut, block-close}
 use Rattle.yew_log.proofs.Growth.{IsValued-append, covered_paths-append, worths-append}
 
 maximum-append : (xs ys : List ℕ) → maximum (xs ++ ys) ≡ max (maximum xs) (maximum ys)
@@ -120,7 +120,7 @@ module _ {N : Type 0} (t : SearchTree N) (gap : ℕ) where
     module _ (levels : ℕ) (made : List ℕ → N → ℕ → List Note) (each : (path : List ℕ) (c : N) (held : ℕ) → at_path t path ≡ Some c → sound c → t.rank c ≤ levels → path ≢ [] → Part path held (made path c held)) where
       kids-part : (path : List ℕ) (n : N) → at_path t path ≡ Some n → (k : ℕ) (cs : List N) (held : ℕ) → drop k (t.children n) ≡ cs → AllByRecursion sound cs → AllByRecursion (λ c. t.rank c ≤ levels) cs → Kids path k cs held (in_turn visited_worth made path k cs held)
       kids-part path n e k [] held d s r = record {
-        is_span = let same : k ≡ k + 0 = omega arith in subst (λ h. IsSpan path k h []) same (record { events = tt; hosts = tt; rises = tt; parents = tt; nests = tt; ends = tt });
+        is_span = let same : k ≡ k + 0 = omega arith in subst (λ h. IsSpan path k h []) same (span-none path k k);
         is_made = made-nothing held;
         all_covered = record { weighs = λ w. refl };
       }
@@ -148,7 +148,7 @@ module _ {N : Type 0} (t : SearchTree N) (gap : ℕ) where
     visit-part zero path n held e s low over =
         close-part path n held [] e s over
         (subst (λ cs. Kids path 0 cs (max held (t.worth n)) []) (sym (leaf n s low))
-        (record { is_span = span-nothing path; is_made = made-nothing (max held (t.worth n)); all_covered = record { weighs = λ w. refl } }))
+        (record { is_span = span-none path 0 0; is_made = made-nothing (max held (t.worth n)); all_covered = record { weighs = λ w. refl } }))
     visit-part (suc levels) path n held e s low over =
         close-part path n held (in_turn visited_worth (λ p c h. if nat_le (t.bound c) (limit gap h) then cut p (t.bound c) h ∷ [] else visit_notes t gap levels p c h) path 0 (t.children n) (max held (t.worth n))) e s over
         (kids-part levels (λ p c h. if nat_le (t.bound c) (limit gap h) then cut p (t.bound c) h ∷ [] else visit_notes t gap levels p c h) (step-part levels (visit-part levels)) path n e 0 (t.children n) (max held (t.worth n)) refl (ranked.stays_sound n s)

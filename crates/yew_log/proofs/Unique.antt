@@ -286,7 +286,7 @@ judgements-head x xs p e = judgement_paths-append (x ∷ []) xs ∙ ap (λ ps. p
 rise-split : (zs : List Note) (x : Note) (xs : List Note) (p : List ℕ) → Rise (paths (judgements (zs ++ x ∷ xs))) → paths (judgement_in x) ≡ p ∷ [] → Rise (paths (judgements zs) ++ p ∷ paths (judgements xs))
 rise-split zs x xs p r e = subst Rise (judgement_paths-append zs (x ∷ xs) ∙ ap (λ ps. paths (judgements zs) ++ ps) (judgements-head x xs p e)) r
 
--- what is judgements next comes after all that was judgements
+-- what is judged next comes after all that was judged
 fresh : (zs : List Note) (x : Note) (xs : List Note) (p : List ℕ) → Rise (paths (judgements (zs ++ x ∷ xs))) → paths (judgement_in x) ≡ p ∷ [] → AllByRecursion (λ q. IsTrue (comes_before q p)) (paths (judgements zs))
 fresh zs x xs p r e = AtEach-at (λ b q a. AllByRecursion (λ m. IsTrue (comes_before m q)) b) [] (paths (judgements zs)) p (paths (judgements xs)) (rise-split zs x xs p r e)
 
@@ -307,7 +307,7 @@ later-all p before (q ∷ ps) has r = (
   later-all p (before ++ q ∷ []) ps (let w = sum_by-append (only p) before (q ∷ []) in omega (arith, w, has)) r.1,
 )
 
--- what is judgements later comes after it
+-- what is judged later comes after it
 later-after : (zs : List Note) (x : Note) (xs : List Note) (p q : List ℕ) → Rise (paths (judgements (zs ++ x ∷ xs))) → paths (judgement_in x) ≡ p ∷ [] → 0 < occurs q (paths (judgements xs)) → comes_before p q ≡ true
 later-after zs x xs p q r e more =
     let rest = AtEach-rest (λ b m a. AllByRecursion (λ k. IsTrue (comes_before k m)) b) [] (paths (judgements zs)) (p ∷ paths (judgements xs)) (rise-split zs x xs p r e) in
@@ -397,7 +397,7 @@ module _ {N : Type 0} (t : SearchTree N) (gap : ℕ) {sound : N → Type 0} (ran
       let i : ◌≡◌ {A = ℕ} (only p p) 1 = ap (λ b. cond b 1 0) (is_path-same p) in
       omega (arith, h, c, i)
 
-  -- a path that is judgements next, and is not the root's, is judgements in each whole body that begins with the same entries
+  -- a path that is judged next, and is not the root's, is judged in each whole body that begins with the same entries
   judgements-too : (zs xs other : List Note) (x : Note) (p : List ℕ) → SeqBody t gap (zs ++ x ∷ xs) → SeqBody t gap (zs ++ other) → paths (judgement_in x) ≡ p ∷ [] → p ≢ [] → 0 < occurs p (paths (judgements other))
   judgements-too zs xs other x p a b e ne =
       let parents = all-paths (λ q. q ≢ [] → Contains (visited_paths zs) (parent_of q)) (judgement_in x) (AtEach-at (λ b' n a'. AllByRecursion (HasParent [] b') (judgement_in n)) [] zs x xs a.parents) in

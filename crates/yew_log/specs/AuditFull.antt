@@ -1,18 +1,14 @@
 -- An audit that could not be kept: a log that had no room for its next entry.
-use Rattle.std.specs.Prelude.{◌≡◌, ℕ, ◌<◌, ◌≤◌, ◌^◌, ◌⊎◌, List, [], ◌∷◌, ◌++◌, length, Some, IsSome}
+use Rattle.std.specs.Prelude.{◌≡◌, ℕ, ◌<◌, ◌^◌, ◌⊎◌, List, [], ◌∷◌, ◌++◌, length, Some, IsSome}
 use Rattle.std.specs.List.{AllByRecursion, sum_by}
-use Rattle.yew_laws.specs.Order.{occurs}
 use Rattle.yew_laws.specs.SearchTree.{SearchTree, at_path, tree_paths}
 use Rattle.yew_log.specs.Notes.{Note, judgements, paths, path_of, path_numbers, taken_paths, sent_paths, ended_paths}
 use Rattle.yew_log.specs.Groups.{Skeleton, sequential}
 use Rattle.yew_log.specs.HeldValues.{HeldIsMaximum}
 use Rattle.yew_log.specs.Lawful.{key_kind_of, IsBrokenLog}
 use Rattle.yew_log.specs.Recording.{IsFull}
+use Rattle.yew_log.specs.Segment.{IsOnce}
 use Rattle.yew_log.specs.SeqLog.{seq_log}
-
--- no path occurs twice
-abbrev pub IsOnce : List (List ℕ) → Type 0
-IsOnce ps = (path : List ℕ) → occurs path ps ≤ 1
 
 -- entries that no log that tells its entries has room for
 abbrev pub MeetsLimits : List Note → Type 0

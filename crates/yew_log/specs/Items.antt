@@ -38,7 +38,7 @@ module _ {N : Type 0} (t : SearchTree N) where
       passes zero c h = true
       passes (suc l) c h = nat_lt h (t.bound c)
 
-  -- Items(P, d), in preorder
+  -- the items of the tree, in preorder: the nodes above the depth that are items, and the tasks at the depth
   abbrev pub items_of : ℕ → List Item
   items_of depth = items_from depth [] t.root 0
 

@@ -1,4 +1,22 @@
--- Which logs are lawful.
+-- Which logs are lawful. A log is cut into segments, each from a Taken entry to the next. A segment keeps these rules.
+--
+-- 1. It begins with the visit or the cut of its task.
+-- 2. The visited and cut paths rise in the order of paths, and each but the task's has its parent visited earlier.
+-- 3. Each visit has one end after it, and there is no other end. Between the two stand all visits, cuts and ends below
+--    the visit and none of other paths, and every child of it that is sent.
+-- 4. The visited paths and all paths at and below the cut and the sent ones are together those at and below the task.
+-- 5. The worths and the bounds are those of the nodes.
+-- 6. Spawned and Handed entries stand in groups directly after a visit, a cut or an end, as the skeleton says.
+--
+-- The held values of a log keep these rules.
+--
+-- 7. They never fall, and each is at least the worth of every earlier visit.
+-- 8. Each visit but the root's had to be made: neither an earlier visit's worth nor the held value permits to cut it. Each
+--    cut is not the root's, and its held value permits it.
+-- 9. In a search of one worker each held value is the greatest worth of the earlier visits, and 0 where there is none.
+--
+-- A log that was broken off keeps rules 1, 2, 5, 7 and 8 as far as it goes: in each segment the paths of rule 4 are a
+-- part of those at and below the task, no path is ended twice, and each end stands after its visit.
 use Rattle.std.specs.Prelude.{◌≡◌, ◌≢◌, ℕ, ◌<◌, ◌⊎◌, List, [], ◌∷◌, ◌++◌, map, length, nat_lt, if◌then◌else◌}
 use Rattle.std.specs.List.{AllByRecursion, flat_map}
 use Rattle.yew_log.specs.Places.{AtEach}

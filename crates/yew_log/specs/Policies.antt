@@ -56,7 +56,7 @@ abbrev pub PolicyGroup : {N Q : Type 0} → SearchTree N → PolicyMeaning Q →
 PolicyGroup t meaning state answers before event group =
     group ≡ act_notes (last_act meaning (meaning.start state) (policy_inputs (before ++ event ∷ []) answers)) (lowest_left t (before ++ event ∷ []))
 
--- a segment's body has the groups of a policy: some answers, one for each visit, cut and end, incumbent to them
+-- a segment's body has the groups of a policy: some answers, one for each visit, cut and end, lead to them
 pub record HasPolicy {N Q : Type 0} (t : SearchTree N) (meaning : PolicyMeaning Q) (state : Q) (answers : List Bool) (body : List Note) : Type 0 where
   pub one_each : length answers ≡ length (event_paths body)
   pub groups : HasGroups (PolicyGroup t meaning state answers) body

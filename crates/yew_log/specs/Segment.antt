@@ -1,9 +1,9 @@
--- One segment of a log: the entries of one taken task.
-use Rattle.std.specs.Prelude.{◌≡◌, ◌≢◌, ℕ, ◌⊎◌, List, [], ◌∷◌, ◌++◌, Some, IsTrue, IsFalse}
+-- One segment of a log: the entries of one taken task. The rules are numbered as in Lawful.
+use Rattle.std.specs.Prelude.{◌≡◌, ◌≢◌, ℕ, ◌≤◌, ◌⊎◌, List, [], ◌∷◌, ◌++◌, Some, IsTrue, IsFalse}
 use Rattle.std.specs.List.{AllByRecursion, Contains, flat_map}
 use Rattle.yew_laws.specs.Bag.{SameBag, PartOfBag}
 use Rattle.yew_log.specs.Places.{AtEach}
-use Rattle.yew_laws.specs.Order.{comes_before, lies_below, is_child, parent_of}
+use Rattle.yew_laws.specs.Order.{comes_before, lies_below, is_child, parent_of, occurs}
 use Rattle.yew_laws.specs.SearchTree.{SearchTree, worth_at, bound_at, below}
 use Rattle.yew_log.specs.Notes.{Note, taken, visited, cut, ended, Judgement, paths, visits, cuts, judgements, judgement_in, visit_in, ended_in, taken_paths, visited_paths, cut_paths, sent_paths, ended_paths, event_paths}
 
@@ -60,9 +60,9 @@ Nests notes = AtEach (λ before note after. AllByRecursion (λ (v : Judgement). 
 abbrev pub EndsVisits : List Note → Type 0
 EndsVisits notes = AtEach (λ before note after. AllByRecursion (λ p. Contains (visited_paths before) p) (ended_in note)) [] notes
 
--- no path is ended twice
-abbrev pub EndsOnce : List Note → Type 0
-EndsOnce notes = AtEach (λ before p after. AllByRecursion (λ q. q ≢ p) before) [] (ended_paths notes)
+-- no path occurs twice
+abbrev pub IsOnce : List (List ℕ) → Type 0
+IsOnce ps = (path : List ℕ) → occurs path ps ≤ 1
 
 module _ {N : Type 0} (t : SearchTree N) where
   -- rule 4: what the entries stand for: the visited paths, and all paths at and below the cut and the sent ones
@@ -92,6 +92,6 @@ module _ {N : Type 0} (t : SearchTree N) where
     pub rises : Rise (paths (judgements s.body))
     pub parents : EachJudged (HasParent s.task) s.body
     pub ends : EndsVisits s.body
-    pub ends_once : EndsOnce s.body
+    pub ends_once : IsOnce (ended_paths s.body)
     pub part_covered : PartOfBag (covered_paths s.body) (below t s.task)
     pub valued : IsValued s.body

@@ -18,6 +18,6 @@ module _ {N : Type 0} (t : SearchTree N) (gap : ℕ) where
       ∷ in_turn visited_worth (λ p c h. if nat_le (t.bound c) (limit gap h) then cut p (t.bound c) h ∷ [] else visit_notes levels p c h) path 0 (t.children n) (max held (t.worth n))
       ++ ended path ∷ []
 
-  -- SeqLog(P, g)
+  -- the log: the root is taken, and visited with all below it
   abbrev pub seq_log : List Note
   seq_log = taken [] ∷ visit_notes (t.rank t.root) [] t.root 0
