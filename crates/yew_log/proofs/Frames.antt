@@ -1,5 +1,5 @@
 -- A walk that is under way: the open visits, each with what was done below it. The lemmas are the turns of the walk.
-use Rattle.std.proofs.Common.{◌≡◌, ◌≢◌, ℕ, suc, ◌+◌, ◌≤◌, List, [], ◌∷◌, ◌++◌, map, ◌⊎◌, inl, inr, refl, ap, sym, subst, ◌∙◌, append_assoc, append-nil, arith}
+use Rattle.std.proofs.Common.{◌≡◌, ℕ, suc, ◌≤◌, List, [], ◌∷◌, ◌++◌, map, ◌⊎◌, inl, inr, refl, ap, sym, subst, ◌∙◌, append_assoc, append-nil, arith}
 use Rattle.std.specs.Prelude.{IsTrue}
 use Rattle.std.specs.List.{AllByRecursion, Contains}
 use Rattle.yew_laws.specs.Bag.{PartOfBag}
@@ -9,8 +9,8 @@ use Rattle.yew_laws.proofs.Below.{AtOrBelow, InChild}
 use Rattle.yew_laws.proofs.Members.{AllByRecursion-weaker, Contains-head, Contains-tail}
 use Rattle.yew_laws.proofs.PathTests.{before-itself}
 use Rattle.yew_log.specs.Places.{AtEach}
-use Rattle.yew_log.specs.Notes.{Note, visited, spawned, handed, ended, Judgement, paths, judgements, judgement_in, ended_in, taken_paths, visited_paths, ended_paths, event_paths}
-use Rattle.yew_log.specs.Segment.{Segment, segment, IsOnce, EndsVisits, Rise, EachJudged, HasParent, IsValued, Begins, IsBroken, covered_paths}
+use Rattle.yew_log.specs.Notes.{Note, visited, spawned, handed, ended, paths, judgements, judgement_in, ended_in, taken_paths, visited_paths, ended_paths, event_paths}
+use Rattle.yew_log.specs.Segment.{segment, IsOnce, EndsVisits, Rise, EachJudged, HasParent, IsValued, Begins, IsBroken, covered_paths}
 use Rattle.yew_log.proofs.Blocks.{IsSpan, IsBlock, HasParentBelow, Rise-append, span-none, span-append, span-block, span-spawned_all, span-handed_all, block-close, events-join, rises-join, once-join, parents-join, ends-join, judgements-from_events, open-span}
 
 -- an open visit: its path, its worth and held value, the number of its next child, and what was done below it
