@@ -2,6 +2,7 @@ pub mod Blocks
 pub mod CausesOfCuts
 pub mod Covered
 pub mod Ends
+pub mod EntryPlaces
 pub mod Frames
 pub mod FullTrees
 pub mod Growth
