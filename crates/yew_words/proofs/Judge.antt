@@ -1,19 +1,15 @@
 -- The same grammar as a function on the words, one word at a time.
-use Rattle.std.specs.Prelude.{ℕ, suc, find, ◌&&◌, List, [], ◌∷◌, ◌++◌, length, Option, Some, None, Result, Ok, Err, nat_lt, nat_le, bytes_eq, codes, if◌then◌else◌}
+use Rattle.std.specs.Prelude.{ℕ, suc, List, [], ◌∷◌, ◌++◌, length, Option, Some, None, Result, Ok, Err, nat_lt, bytes_eq, codes, if◌then◌else◌}
 use Rattle.std.specs.List.{list_all}
 use Rattle.yew_words.specs.declared.plan.Made.{Made}
-use Rattle.yew_words.specs.declared.plan.Made.TheVariants as made
 use Rattle.yew_words.specs.declared.plan.UsageKind.{UsageKind}
-use Rattle.yew_words.specs.declared.plan.UsageKind.TheVariants.{Missing, Unknown, NotFile, Repeated, NotNumber, OutOfRange, NotHere}
-use Rattle.yew_words.specs.Word.{Word, is_file_name, is_number, number_of}
+use Rattle.yew_words.specs.declared.plan.UsageKind.TheVariants.{Missing, Unknown, NotFile, Repeated, NotHere}
+use Rattle.yew_words.specs.Word.{Word, is_file_name}
 use Rattle.yew_words.specs.declared.table.Problem.{Problem}
 use Rattle.yew_words.specs.declared.table.Coordination.{Coordination}
 use Rattle.yew_words.specs.declared.table.Head.{Head}
 use Rattle.yew_words.specs.declared.table.OptionName.{OptionName}
 use Rattle.yew_words.specs.declared.table.Takes.{Takes}
-use Rattle.yew_words.specs.declared.table.Problem.TheVariants as problems
-use Rattle.yew_words.specs.declared.table.Coordination.TheVariants as coordinations
-use Rattle.yew_words.specs.declared.table.OptionName.TheVariants as options
 use Rattle.yew_words.specs.declared.table.Head.TheVariants.{Search, Make}
 use Rattle.yew_words.specs.declared.table.Takes.TheVariants.{Nothing, OneOrAll, Number}
 use Rattle.yew_words.specs.Table.{problem_word, coordination_word, made_word, file_count, option_word, takes, is_for, required, named, every_problem, every_coordination, every_made, every_option}

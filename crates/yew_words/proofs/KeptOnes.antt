@@ -4,7 +4,7 @@ use Rattle.std.specs.Prelude.{IsTrue, IsFalse, is_some, option_map, option_and_t
 use Rattle.std.specs.List.{list_all, list_any, AllByRecursion}
 use Rattle.std.specs.List.{IsDistinct}
 use Rattle.std.proofs.Math.Dec.{eqb}
-use Rattle.std.proofs.lemmas.Bool.{cases_Bool, both_ways, ne_eqb, eqb-true, or_cases}
+use Rattle.std.proofs.lemmas.Bool.{cases_Bool, ne_eqb, eqb-true, or_cases}
 use Rattle.std.proofs.lemmas.Option.{none-some}
 use Rattle.std.proofs.lemmas.List.{get_or-set_same, get_or-set_other, length-append}
 use Rattle.std.proofs.lemmas.Map.Steps.{length-le_from_distinct_below}
@@ -16,7 +16,7 @@ use Rattle.yew_words.specs.declared.table.Takes.TheVariants.{Nothing, OneOrAll, 
 use Rattle.yew_words.specs.declared.value.Value.{Value}
 use Rattle.yew_words.specs.declared.settings.Settings.{Settings}
 use Rattle.yew_words.specs.Word.{Word, number_of}
-use Rattle.yew_words.specs.Table.{option_word, takes, is_for, required}
+use Rattle.yew_words.specs.Table.{option_word, takes, is_for}
 use Rattle.yew_words.specs.Plans.{Setting, setting_words, IsValue, is_named, setting_of, is_given, value_of, number_at, AreSettings}
 use Rattle.yew_words.specs.Table.{named, every_option}
 use Rattle.yew_words.specs.Kept.{kept_as, kept_of, index_of, kept_at, kept_number, kept_all, Keeps, AreKept, IsNarrow}

@@ -1,6 +1,6 @@
 -- The plan's fields, by what is kept.
-use Rattle.std.proofs.Common.{◌≡◌, ◌≢◌, ℕ, List, Option, Some, None, refl, sym, ap, subst, ◌∙◌}
-use Rattle.std.specs.Prelude.{unwrap_or, bytes_eq, codes}
+use Rattle.std.proofs.Common.{◌≡◌, ◌≢◌, List, refl}
+use Rattle.std.specs.Prelude.{unwrap_or}
 use Rattle.yew_words.specs.declared.plan.Made.TheVariants as made
 use Rattle.yew_words.specs.declared.table.Head.{Head}
 use Rattle.yew_words.specs.declared.table.Head.TheVariants.{Search, Make}
@@ -10,11 +10,10 @@ use Rattle.yew_words.specs.declared.table.Coordination.TheVariants as coordinati
 use Rattle.yew_words.specs.declared.table.OptionName.TheVariants as options
 use Rattle.yew_words.specs.declared.table.Takes.TheVariants.{OneOrAll}
 use Rattle.yew_words.specs.declared.settings.Settings.{Settings}
-use Rattle.yew_words.specs.Word.{number_of}
 use Rattle.yew_words.specs.Table.{takes}
-use Rattle.yew_words.specs.Plans.{Setting, AreSettings, number_at, value_of, skeleton_of, workers_of}
-use Rattle.yew_words.specs.Kept.{kept_at, kept_number, kept_all, Keeps}
-use Rattle.yew_words.proofs.KeptOnes.{number_kept, all_kept}
+use Rattle.yew_words.specs.Plans.{Setting, AreSettings, number_at, workers_of}
+use Rattle.yew_words.specs.Kept.{kept_at, kept_number, Keeps}
+use Rattle.yew_words.proofs.KeptOnes.{number_kept}
 
 module _ (head : Head) (settings : Settings) (given : List Setting) (are : AreSettings head given) (keeps : Keeps head settings given) where
   pub workers_kept : kept_number (kept_at settings options.Workers) ≡ number_at given options.Workers

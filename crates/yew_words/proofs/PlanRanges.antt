@@ -1,8 +1,7 @@
 -- A plan's numbers are in their ranges.
-use Rattle.std.proofs.Common.{◌≡◌, ℕ, ◌≤◌, true, List, [], ◌∷◌, length, Option, Some, None, refl, sym, ap, subst, ◌∙◌, arith}
+use Rattle.std.proofs.Common.{◌≡◌, ℕ, ◌≤◌, List, Option, Some, None, refl, sym, ap, subst, ◌∙◌, arith}
 use Rattle.std.specs.Prelude.{IsTrue, IsFalse, IfSome, is_some, option_map, option_and_then, unwrap_or}
 use Rattle.std.proofs.lemmas.Bool.{both_ways}
-use Rattle.yew_words.specs.declared.plan.Made.{Made}
 use Rattle.yew_words.specs.declared.plan.Made.TheVariants as made
 use Rattle.yew_words.specs.declared.table.Problem.TheVariants as problems
 use Rattle.yew_words.specs.declared.table.Coordination.TheVariants as coordinations
@@ -14,7 +13,7 @@ use Rattle.yew_words.specs.declared.table.Takes.{Takes}
 use Rattle.yew_words.specs.declared.table.Takes.TheVariants.{Number}
 use Rattle.yew_words.specs.Word.{Word, number_of}
 use Rattle.yew_words.specs.Table.{file_count, takes, is_for}
-use Rattle.yew_words.specs.Plans.{Planned, Setting, IsValue, setting_of, is_given, number_at, AreSettings, AreFiles, HasRequired, job_of, skeleton_of, workers_of, plan_of, PlanOf}
+use Rattle.yew_words.specs.Plans.{Planned, Setting, IsValue, setting_of, is_given, number_at, AreSettings, HasRequired, job_of, skeleton_of, workers_of, PlanOf}
 use Rattle.yew_words.specs.Ranges.{IsFromTo, HasSkeletonRange, HasWorkersRange, HasTargetRange, HasGenusRange, HasSizeRange, file_count_of, HasSkeletonOf, IsWithin}
 use Rattle.yew_words.proofs.KeptOnes.{found}
 

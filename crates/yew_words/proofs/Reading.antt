@@ -1,6 +1,6 @@
 -- What the reader's steps come to.
-use Rattle.std.proofs.Common.{◌≡◌, ◌≢◌, ℕ, suc, ◌+◌, ◌-◌, ◌<◌, ◌≤◌, Bool, true, false, List, [], ◌∷◌, ◌++◌, length, Option, Some, None, refl, sym, ap, subst, ◌∙◌, append_assoc, get_or, take, drop, arith, inl, inr}
-use Rattle.std.specs.Prelude.{IsTrue, IsFalse, is_some, flat_map, slice_set, String, string_bytes, codes}
+use Rattle.std.proofs.Common.{◌≡◌, ◌≢◌, ℕ, suc, ◌+◌, ◌-◌, ◌<◌, ◌≤◌, true, false, List, [], ◌∷◌, ◌++◌, length, Option, Some, None, refl, sym, ap, subst, ◌∙◌, append_assoc, get_or, take, drop, arith}
+use Rattle.std.specs.Prelude.{IsTrue, IsFalse, is_some, flat_map, slice_set, String, string_bytes}
 use Rattle.std.specs.List.{list_all}
 use Rattle.std.specs.Option.{option_to_list}
 use Rattle.std.specs.declared.alloc.Global.{Global}
@@ -15,15 +15,14 @@ use Rattle.yew_words.specs.declared.table.Head.TheVariants.{Search, Make}
 use Rattle.yew_words.specs.declared.table.Problem.TheVariants as problems
 use Rattle.yew_words.specs.declared.table.OptionName.{OptionName}
 use Rattle.yew_words.specs.declared.table.Takes.{Takes}
-use Rattle.yew_words.specs.declared.table.Takes.TheVariants.{Nothing, OneOrAll, Number}
+use Rattle.yew_words.specs.declared.table.Takes.TheVariants.{Nothing}
 use Rattle.yew_words.specs.declared.value.Value.{Value}
-use Rattle.yew_words.specs.declared.value.Value.TheVariants as values
 use Rattle.yew_words.specs.declared.settings.Settings.{Settings}
 use Rattle.yew_words.specs.Word.{Word, texts, is_file_name}
-use Rattle.yew_words.specs.Table.{head_words, file_count, option_word, takes, is_for, required}
-use Rattle.yew_words.specs.Plans.{Setting, setting_words, IsValue, is_given, AreSettings, AreFiles, HasRequired}
-use Rattle.yew_words.specs.Offences.{Due, DueFile, DueOption, DueValue, words_before, IsBadValue, IsOffence, IsRefused, Offending}
-use Rattle.yew_words.specs.Kept.{kept_as, kept_of, index_of, kept_at, Keeps, NamesOption, RefusesName, TakesValue, RefusesValue, GoesOn, TakesSetting, RefusesSetting, ReadsSettings}
+use Rattle.yew_words.specs.Table.{head_words, file_count, option_word, takes, required}
+use Rattle.yew_words.specs.Plans.{Setting, setting_words, is_given, AreSettings, AreFiles}
+use Rattle.yew_words.specs.Offences.{DueFile, DueOption, DueValue, words_before, IsBadValue, IsOffence, IsRefused, Offending}
+use Rattle.yew_words.specs.Kept.{kept_of, index_of, kept_at, Keeps, NamesOption, RefusesName, TakesValue, RefusesValue, TakesSetting, RefusesSetting, ReadsSettings}
 use Rattle.yew_words.proofs.GivenOnes.{AreSettings-push}
 use Rattle.yew_words.proofs.Steps.{AreNames, AreNames-push}
 use Rattle.yew_words.proofs.Sound.{list_all-true, all-list_all}

@@ -1,5 +1,5 @@
 -- The ranges of a plan's numbers, by its job and skeleton.
-use Rattle.std.specs.Prelude.{◌≡◌, ℕ, ◌≤◌, List, length, Option, None, IfSome}
+use Rattle.std.specs.Prelude.{◌≡◌, ℕ, ◌≤◌, length, Option, None, IfSome}
 use Rattle.yew_words.specs.declared.plan.Job.{Job}
 use Rattle.yew_words.specs.declared.plan.Job.TheVariants as jobs
 use Rattle.yew_words.specs.declared.plan.Made.TheVariants as made

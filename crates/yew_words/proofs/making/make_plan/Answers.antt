@@ -1,5 +1,5 @@
 -- Field by field.
-use Rattle.std.proofs.Common.{◌≡◌, ℕ, Option, ap, sym, ◌∙◌}
+use Rattle.std.proofs.Common.{◌≡◌, ℕ, Option, ap, ◌∙◌}
 use Rattle.std.specs.Prelude.{unwrap_or}
 use Rattle.yew_words.specs.declared.table.OptionName.TheVariants as options
 use Rattle.yew_words.specs.Plans.{job_of, skeleton_of, workers_of, number_at, is_given}

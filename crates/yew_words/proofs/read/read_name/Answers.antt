@@ -1,5 +1,5 @@
 -- The word that names an option is its word.
-use Rattle.std.proofs.Common.{sym, ◌∙◌}
+use Rattle.std.proofs.Common.{sym}
 use Rattle.yew_words.specs.Table.{option_word}
 use Rattle.yew_words.specs.Table.{every_option}
 use Rattle.yew_words.proofs.Names.{named_is}

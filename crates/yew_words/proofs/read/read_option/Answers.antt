@@ -1,5 +1,5 @@
 -- An option's name, and its value.
-use Rattle.std.proofs.Common.{subst, sym, ◌+◌, ◌∷◌}
+use Rattle.std.proofs.Common.{subst, ◌+◌, ◌∷◌}
 use Rattle.yew_words.specs.declared.table.Takes.{Takes}
 use Rattle.yew_words.specs.Word.{Word, texts}
 use Rattle.yew_words.specs.Kept.{TakesValue, RefusesValue, TakesSetting, RefusesSetting}

@@ -1,5 +1,5 @@
 -- Each plan and each offence is answered.
-use Rattle.std.proofs.Common.{rules, Ok, Err}
+use Rattle.std.proofs.Common.{rules, Ok}
 use Rattle.std.specs.Prelude.{IfOk, IfErr}
 use Rattle.yew_words.specs.Word.{texts}
 use Rattle.yew_words.specs.Plans.{planned, PlanOf}

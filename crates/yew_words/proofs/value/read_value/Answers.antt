@@ -1,6 +1,6 @@
 -- The first word's fault.
-use Rattle.std.proofs.Common.{subst, sym, ap, ◌∙◌, ◌∷◌, List, Some}
-use Rattle.yew_words.specs.Word.{Word, texts}
+use Rattle.std.proofs.Common.{subst, sym, List}
+use Rattle.yew_words.specs.Word.{Word}
 use Rattle.yew_words.specs.Kept.{RefusesValue}
 use Rattle.yew_words.proofs.Steps.{fault_is}
 use Rattle.yew_words.proofs.HeadWords.{first_and_rest}
