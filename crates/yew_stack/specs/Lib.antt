@@ -1,0 +1,4 @@
+pub mod Levels
+pub mod Splits
+pub mod ToCome
+pub mod Turns

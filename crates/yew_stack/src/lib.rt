@@ -1,0 +1,12 @@
+//! Stacks of node generators: the nodes of a depth first search that are still to come.
+//!
+//! Each visited node is a level of a [`GenStack`]: its path, and the generator of its children. The stack gives the
+//! children of the top level one at a time, and hands the path of a level back when that level has ended. The lowest
+//! nodes, nearest to the root, can be split off as tasks for others. What the levels have still to come, in preorder,
+//! and how a search that uses them ends, is defined in `specs/Remaining.antt`.
+#![tactic(auto)]
+
+mod levels;
+mod stacks;
+
+pub use stacks::{Chunk, GenStack, Turn};
