@@ -1,7 +1,7 @@
 -- What a turn or a split leaves to come.
 use Rattle.std.proofs.Common.{◌≡◌, ℕ, suc, ◌+◌, ◌*◌, ◌<◌, ◌^◌, List, [], ◌∷◌, ◌++◌, length, drop, slice_get, Some, refl, ap, ap₂, sym, subst, ◌∙◌, arith, append_assoc, append-nil, add-one, length-append, length-drop}
 use Rattle.std.specs.List.{AllByRecursion, flat_map, sum_by}
-use Rattle.std.proofs.lemmas.List.{length-map}
+use Rattle.std.proofs.lemmas.List.{length-map, map_push}
 use Rattle.std.proofs.Math.Seq.{drop-append_seam}
 use Rattle.std.proofs.lemmas.List.Sums.{sum_by-append}
 use Rattle.yew_laws.specs.Bag.{SameBag}
@@ -13,9 +13,9 @@ use Rattle.yew_laws.proofs.Incumbents.{prefixed-forest}
 use Rattle.yew_laws.proofs.Members.{AllByRecursion-append, AllByRecursion-at, AllByRecursion-weaker}
 use Rattle.yew_laws.proofs.Trees.{node_at-child}
 use Rattle.yew_laws.proofs.Steps.{slice_get_from_drop, drop_from_drop, AllByRecursion-drop}
-use Rattle.yew_stack.specs.Levels.{LevelValue, LevelView, levels, Gives, IsNumbered}
+use Rattle.yew_stack.specs.Levels.{LevelValue, LevelView, level_of, levels, Gives, IsNumbered, AreSound, AreNumbered}
 use Rattle.yew_stack.specs.Splits.{nodes_of, paths_of, Moves, MovesLowest, appended}
-use Rattle.yew_stack.specs.ToCome.{level_to_come, levels_to_come, turns_of, IsOpen, node_tree, task_members, to_come, AllOpen}
+use Rattle.yew_stack.specs.ToCome.{level_to_come, levels_to_come, turns_of, IsOpen, node_tree, task_members, to_come, turns_left, AllOpen}
 use Rattle.yew_stack.specs.Turns.{TopGives, TopEnds}
 
 pub AllByRecursion-push : {X : Type 0} (P : X → Type 0) (xs : List X) (x : X) → AllByRecursion P (xs ++ x ∷ []) → AllByRecursion P xs × P x
@@ -253,3 +253,46 @@ module _ {S N K : Type 0} (meaning : Ghosts S N K) (problem : S) where
 
   pub ends-open : (old new : List (LevelValue K)) (path : List ℕ) → TopEnds (seen old) path (seen new) → AllOpen meaning problem old → AllOpen meaning problem new
   ends-open old new path turn all = (AllByRecursion-push Open (seen new) turn.top (subst (AllByRecursion Open) turn.old_is all)).0
+
+  -- the conditions of a turn and of a split, of levels that are open
+  pub open-AreSound : IsRanked (meaning.sound problem) (meaning.children problem) (meaning.rank problem) → (stack : List (LevelValue K)) → AllOpen meaning problem stack → AreSound (meaning.sound problem) (seen stack)
+  open-AreSound ranked stack all = AllByRecursion-weaker Open (λ level. AllByRecursion (meaning.sound problem) level.remaining) (λ level is_open. open-sound ranked level is_open) (seen stack) all
+
+  pub open-AreNumbered : IsRanked (meaning.sound problem) (meaning.children problem) (meaning.rank problem) → ((n : N) → meaning.sound problem n → length (meaning.children problem n) + 1 < 2 ^ 32) → (stack : List (LevelValue K)) → AllOpen meaning problem stack → AreNumbered (seen stack)
+  open-AreNumbered ranked countable stack all = AllByRecursion-weaker Open IsNumbered (λ level is_open. open-numbered ranked countable level is_open) (seen stack) all
+
+  -- the level of a task is open
+  pub push-open : IsRanked (meaning.sound problem) (meaning.children problem) (meaning.rank problem) → (stack : List (LevelValue K)) (path : List ℕ) (node : N) (kids : K) → IsTask meaning problem path node → meaning.remaining problem kids ≡ meaning.children problem node → AllOpen meaning problem stack → AllOpen meaning problem (stack ++ record { parent = path; given = 0; kids = kids } ∷ [])
+  push-open ranked stack path node kids task is all =
+      let level : LevelValue K = record { parent = path; given = 0; kids = kids } in
+      subst (AllByRecursion Open) (sym (map_push (level_of (meaning.remaining problem)) stack level))
+      (AllByRecursion-append Open (seen stack) (level_of (meaning.remaining problem) level ∷ []) all (open-new ranked path node (meaning.remaining problem kids) task.found task.is_sound is, tt))
+
+  -- what a new level has to come: the trees of the node's children
+  pub push-to_come : (stack : List (LevelValue K)) (path : List ℕ) (node : N) (kids : K) → meaning.remaining problem kids ≡ meaning.children problem node → to_come meaning problem (stack ++ record { parent = path; given = 0; kids = kids } ∷ []) ≡ prefixed path (forest (node_tree meaning problem) 0 (meaning.children problem node)) ++ to_come meaning problem stack
+  push-to_come stack path node kids is =
+      let trees = node_tree meaning problem in
+      let level : LevelValue K = record { parent = path; given = 0; kids = kids } in
+      ap (levels_to_come trees) (map_push (level_of (meaning.remaining problem)) stack level)
+      ∙ to_come-opens trees (seen stack) path (meaning.remaining problem kids)
+      ∙ ap (λ ns. prefixed path (forest trees 0 ns) ++ to_come meaning problem stack) is
+
+  pub push-turns_left : (stack : List (LevelValue K)) (path : List ℕ) (node : N) (kids : K) → meaning.remaining problem kids ≡ meaning.children problem node → turns_left meaning problem (stack ++ record { parent = path; given = 0; kids = kids } ∷ []) ≡ 2 * length (forest (node_tree meaning problem) 0 (meaning.children problem node)) + turns_left meaning problem stack + 1
+  push-turns_left stack path node kids is =
+      let trees = node_tree meaning problem in
+      let level : LevelValue K = record { parent = path; given = 0; kids = kids } in
+      ap (turns_of trees) (map_push (level_of (meaning.remaining problem)) stack level)
+      ∙ turns-opens trees (seen stack) path (meaning.remaining problem kids)
+      ∙ ap (λ ns. 2 * length (forest trees 0 ns) + turns_left meaning problem stack + 1) is
+
+  -- a turn that gives a node takes two for each node of its tree, and the end of a level takes one
+  pub gives-turns_left : (old new : List (LevelValue K)) (task : Task S N K) → TopGives (seen old) task.path.numbers task.node (seen new) → turns_left meaning problem old ≡ 2 * length (node_tree meaning problem task.node) + turns_left meaning problem new
+  gives-turns_left old new task turn =
+      let trees = node_tree meaning problem in
+      ap (turns_of trees) turn.old_is
+      ∙ turns-gives trees turn.lower turn.top turn.rest task.path.numbers task.node turn.gives
+      ∙ ap (λ ls. 2 * length (trees task.node) + turns_of trees ls) (sym turn.new_is)
+
+  pub ends-turns_left : (old new : List (LevelValue K)) (path : List ℕ) → TopEnds (seen old) path (seen new) → turns_left meaning problem old ≡ turns_left meaning problem new + 1
+  ends-turns_left old new path turn =
+      let trees = node_tree meaning problem in ap (turns_of trees) turn.old_is ∙ turns-ended trees (seen new) turn.top turn.spent

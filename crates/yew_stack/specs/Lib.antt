@@ -1,3 +1,4 @@
+pub mod Fan
 pub mod Levels
 pub mod Splits
 pub mod ToCome

@@ -10,3 +10,6 @@ mod levels;
 mod stacks;
 
 pub use stacks::{Chunk, GenStack, Turn};
+
+#[cfg(test)]
+mod tests;
