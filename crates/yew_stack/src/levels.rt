@@ -1,6 +1,6 @@
 //! One level of a stack: a visited node whose children are still to come.
 
-ghost use Rattle.std.specs.Prelude.{◌≡◌, ℕ, ◌+◌, ◌<◌, [], ◌∷◌, ◌++◌, length, IfOk, OnOk, OnErr, MatchOption, MatchBool};
+ghost use Rattle.std.specs.Prelude.{◌≡◌, ℕ, ◌+◌, ◌<◌, [], ◌∷◌, ◌++◌, length, vec_len, vec_capacity, nat_lt, if◌then◌else◌, IfOk, OnErr, MatchOption, MatchBool};
 ghost use Rattle.std.specs.List.{AllByRecursion};
 ghost use Rattle.yew_stack.specs.Levels.{LevelValue, level_of, IsNumbered, Gives};
 
@@ -36,13 +36,16 @@ fn path_for_child(spares: &mut Vec<Path>, parent: &Path, number: u32) -> Result<
         }
     }
     let path = parent.child(number)?;
+    // The space of a path is at least the length of its numbers.
     let _ = path.numbers();
     Ok(path)
 }
 
 /// Keeps a path as a spare, where the list has room for it.
 #[inline]
-pub fn keep_spare(spares: &mut Vec<Path>, path: Path) {
+pub fn keep_spare(spares: &mut Vec<Path>, path: Path)
+    ensures { spares.new.items ≡ (if nat_lt (vec_len spares.old) (vec_capacity spares.old) then spares.old.items ++ path ∷ [] else spares.old.items) }
+{
     if spares.len() < spares.capacity() {
         spares.push(path).unwrap();
     }
