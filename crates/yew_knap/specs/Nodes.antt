@@ -1,0 +1,68 @@
+-- The tree of the sets of items that can be carried.
+use Rattle.std.specs.Prelude.{◌≡◌, ℕ, ◌+◌, ◌-◌, ◌*◌, ◌/◌, ◌≤◌, Bool, false, List, [], ◌∷◌, length, drop, filter, sum_by, nat_le, if◌then◌else◌}
+use Rattle.std.specs.List.{AllByRecursion, range_with_len}
+use Rattle.yew_knap.specs.declared.item_sets.ItemSet.{ItemSet}
+use Rattle.yew_knap.specs.declared.nodes.KnapNode.{KnapNode}
+use Rattle.yew_knap.specs.declared.nodes.KnapKids.{KnapKids}
+use Rattle.yew_knap.specs.declared.order.Numbered.{Numbered}
+use Rattle.yew_knap.specs.Instance.{Instance, IsWithinLimits}
+use Rattle.yew_knap.specs.ItemSets.{no_items, has_item, with_item}
+use Rattle.yew_knap.specs.SearchedOrder.{searched_order}
+
+-- the numbers of the items in a node's set, rising
+abbrev pub chosen_of : Instance → KnapNode → List ℕ
+chosen_of instance node = filter (λ number. has_item node.chosen (number - 1)) (range_with_len 1 (length instance.items))
+
+-- the empty set
+abbrev pub root_of : Instance → KnapNode
+root_of instance = record { profit = 0; room = instance.capacity; next = 0; chosen = no_items }
+
+-- a set with the item at a place of the searched order
+abbrev pub added : KnapNode → ℕ → Numbered → KnapNode
+added node place item = record { profit = node.profit + item.profit; room = node.room - item.weight; next = place + 1; chosen = with_item node.chosen item.index }
+
+-- the sets with one more item, of those items from a place on that fit
+abbrev pub with_one_more : KnapNode → ℕ → List Numbered → List KnapNode
+with_one_more node place [] = []
+with_one_more node place (item ∷ items) = if nat_le item.weight node.room then added node place item ∷ with_one_more node (place + 1) items else with_one_more node (place + 1) items
+
+-- the sets with one item more that stands after the last added one and fits
+abbrev pub children_of : Instance → KnapNode → List KnapNode
+children_of instance node = with_one_more node node.next (drop node.next (searched_order instance))
+
+-- those that a generator has still to give
+abbrev pub remaining_of : Instance → KnapKids → List KnapNode
+remaining_of instance kids = with_one_more kids.parent kids.next (drop kids.next (searched_order instance))
+
+-- the number of items after the last added one
+abbrev pub rank_of : Instance → KnapNode → ℕ
+rank_of instance node = length (searched_order instance) - node.next
+
+-- the total profit, plus 1, so that the empty set is an answer too
+abbrev pub worth_of : Instance → KnapNode → ℕ
+worth_of instance node = node.profit + 1
+
+-- Dantzig's bound on what the items of a list add within a room: each item while it fits, and then, of the first one
+-- that does not fit, the whole part of its profit times the room left divided by its weight
+abbrev pub dantzig : ℕ → List Numbered → ℕ
+dantzig room [] = 0
+dantzig room (item ∷ items) = if nat_le item.weight room then item.profit + dantzig (room - item.weight) items else item.profit * room / item.weight
+
+abbrev pub bound_of : Instance → KnapNode → ℕ
+bound_of instance node = node.profit + dantzig node.room (drop node.next (searched_order instance)) + 1
+
+-- what an item adds to the profit and to the weight of a set
+abbrev pub profit_in : ItemSet → Numbered → ℕ
+profit_in items item = if has_item items item.index then item.profit else 0
+
+abbrev pub weight_in : ItemSet → Numbered → ℕ
+weight_in items item = if has_item items item.index then item.weight else 0
+
+-- the node's numbers are those of its set, and no item from its next place on is in the set
+pub record IsNode (instance : Instance) (node : KnapNode) : Type 0 where
+  pub limits : IsWithinLimits instance
+  pub size : length node.chosen.words ≡ 4
+  pub within : node.next ≤ length (searched_order instance)
+  pub profit_is : node.profit ≡ sum_by (profit_in node.chosen) (searched_order instance)
+  pub room_is : node.room + sum_by (weight_in node.chosen) (searched_order instance) ≡ instance.capacity
+  pub none_later : AllByRecursion (λ item. has_item node.chosen item.index ≡ false) (drop node.next (searched_order instance))

@@ -1,0 +1,13 @@
+//! The 0/1 knapsack problem as a problem of tree search: from the items of a file, the sets of items that can be
+//! carried, one node a set, with Dantzig's bound.
+#![tactic(auto)]
+
+mod item_sets;
+mod knapsack;
+mod nodes;
+mod order;
+
+pub use item_sets::ItemSet;
+pub use knapsack::{Item, Knapsack};
+pub use nodes::{KnapKids, KnapNode};
+pub use order::Numbered;
