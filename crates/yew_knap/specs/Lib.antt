@@ -1,6 +1,9 @@
+pub mod BoundLaws
 pub mod Instance
 pub mod ItemSetLaws
 pub mod ItemSets
+pub mod Lists
+pub mod NodeLaws
 pub mod Nodes
 pub mod OrderLaws
 pub mod Packings

@@ -51,18 +51,15 @@ dantzig room (item ∷ items) = if nat_le item.weight room then item.profit + da
 abbrev pub bound_of : Instance → KnapNode → ℕ
 bound_of instance node = node.profit + dantzig node.room (drop node.next (searched_order instance)) + 1
 
--- what an item adds to the profit and to the weight of a set
-abbrev pub profit_in : ItemSet → Numbered → ℕ
-profit_in items item = if has_item items item.index then item.profit else 0
-
-abbrev pub weight_in : ItemSet → Numbered → ℕ
-weight_in items item = if has_item items item.index then item.weight else 0
+-- an item's amount where it is in a set, and 0 elsewhere
+abbrev pub amount_in : (Numbered → ℕ) → ItemSet → Numbered → ℕ
+amount_in amount items item = if has_item items item.index then amount item else 0
 
 -- the node's numbers are those of its set, and no item from its next place on is in the set
 pub record IsNode (instance : Instance) (node : KnapNode) : Type 0 where
   pub limits : IsWithinLimits instance
   pub size : length node.chosen.words ≡ 4
   pub within : node.next ≤ length (searched_order instance)
-  pub profit_is : node.profit ≡ sum_by (profit_in node.chosen) (searched_order instance)
-  pub room_is : node.room + sum_by (weight_in node.chosen) (searched_order instance) ≡ instance.capacity
+  pub profit_is : node.profit ≡ sum_by (amount_in (λ item. item.profit) node.chosen) (searched_order instance)
+  pub room_is : node.room + sum_by (amount_in (λ item. item.weight) node.chosen) (searched_order instance) ≡ instance.capacity
   pub none_later : AllByRecursion (λ item. has_item node.chosen item.index ≡ false) (drop node.next (searched_order instance))
