@@ -1,1 +1,1 @@
-mod Probe
+mod Nexts

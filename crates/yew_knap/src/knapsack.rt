@@ -1,7 +1,11 @@
-//! The problem: its items and what can be carried.
+//! What a knapsack problem is about: its items and what can be carried.
 
-use crate::order::Numbered;
+ghost use Rattle.std.specs.Prelude.{◌≡◌, ◌≤◌, length, IfOk};
+ghost use Rattle.yew_knap.specs.Instance.{Instance};
+
+use crate::order::{Numbered, order_of};
 use std::marker::Model;
+use yew_laws::Memory;
 
 /// An item of a file.
 #[derive(Clone, Copy, Debug, PartialEq, Eq)]
@@ -30,4 +34,42 @@ impl Model for Knapsack {
     ghost view = { λ a. record { capacity = a.capacity; items = a.items.items } };
 
     ghost invariant = { λ a. a.order.items ≡ all_placed [] 0 a.items.items };
+}
+
+impl Knapsack {
+    ghost use Rattle.yew_knap.specs.SearchedOrder.{searched_order};
+
+    /// The problem of at most 256 items.
+    pub fn new(capacity: u64, items: Vec<Item>) -> Result<Knapsack, Memory>
+        requires { length items.items ≤ 256 }
+        ensures { IfOk result (λ problem. problem ≡ record { capacity = capacity; items = items.items }) }
+    {
+        let order = order_of(*items.allocator(), items.as_slice())?;
+        Ok(Knapsack {
+            capacity,
+            items,
+            order,
+        })
+    }
+
+    /// The weight that can be carried.
+    pub fn capacity(&self) -> u64
+        ensures { result ≡ self.now.capacity }
+    {
+        self.capacity
+    }
+
+    /// The items in the order of the file.
+    pub fn items(&self) -> &[Item]
+        ensures { result.now ≡ self.now.items }
+    {
+        self.items.as_slice()
+    }
+
+    /// The items in the order in which they are tried.
+    pub fn order(&self) -> &[Numbered]
+        ensures { result.now ≡ searched_order self.now }
+    {
+        self.order.as_slice()
+    }
 }

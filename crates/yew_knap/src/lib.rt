@@ -2,10 +2,12 @@
 //! carried, one node a set, with Dantzig's bound.
 #![tactic(auto)]
 
+mod bounds;
 mod item_sets;
 mod knapsack;
 mod nodes;
 mod order;
+mod problem;
 
 pub use item_sets::ItemSet;
 pub use knapsack::{Item, Knapsack};
