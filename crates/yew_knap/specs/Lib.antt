@@ -1,3 +1,4 @@
+pub mod Answers
 pub mod BoundLaws
 pub mod Instance
 pub mod ItemSetLaws
