@@ -9,3 +9,4 @@ pub mod Nodes
 pub mod OrderLaws
 pub mod Packings
 pub mod SearchedOrder
+pub mod Texts

@@ -5,9 +5,11 @@
 mod bounds;
 mod item_sets;
 mod knapsack;
+pub mod laws;
 mod nodes;
 mod order;
 mod problem;
+mod texts;
 
 pub use item_sets::ItemSet;
 pub use knapsack::{Item, Knapsack};

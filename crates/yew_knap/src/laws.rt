@@ -1,0 +1,15 @@
+//! What the tree of a knapsack problem says of the problem. The function does nothing: its contract is the law.
+
+ghost use Rattle.yew_knap.specs.Answers.{TreePacks};
+ghost use Rattle.yew_knap.specs.Instance.{IsWithinLimits};
+
+use crate::knapsack::Knapsack;
+
+/// The sets of the nodes are all sets that can be carried, each once. So the greatest worth is 1 more than the best
+/// profit, and a worth is reached exactly where some set's profit meets the target.
+pub fn tree_packs(problem: &Knapsack)
+    requires { IsWithinLimits problem.now }
+    ensures { TreePacks problem.now }
+{
+    let _ = problem;
+}
