@@ -1,5 +1,8 @@
 mod Amounts
 mod Apart
+mod FileGrammar
+mod FileReader
+mod ItemSteps
 mod Lines
 mod Nexts
 mod NumberSets

@@ -1,5 +1,6 @@
 pub mod Answers
 pub mod BoundLaws
+pub mod Files
 pub mod Instance
 pub mod ItemSetLaws
 pub mod ItemSets
@@ -8,5 +9,6 @@ pub mod NodeLaws
 pub mod Nodes
 pub mod OrderLaws
 pub mod Packings
+pub mod Reading
 pub mod SearchedOrder
 pub mod Texts

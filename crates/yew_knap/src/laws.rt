@@ -1,6 +1,8 @@
-//! What the tree of a knapsack problem says of the problem. The function does nothing: its contract is the law.
+//! What the tree of a knapsack problem says of the problem, and the laws of its files. Each function does nothing: its
+//! contract is the law.
 
 ghost use Rattle.yew_knap.specs.Answers.{TreePacks};
+ghost use Rattle.yew_knap.specs.Files.{FileLaws};
 ghost use Rattle.yew_knap.specs.Instance.{IsWithinLimits};
 
 use crate::knapsack::Knapsack;
@@ -13,3 +15,9 @@ pub fn tree_packs(problem: &Knapsack)
 {
     let _ = problem;
 }
+
+/// A knapsack file has one instance or one first offence, and never both; and an instance is within its limits exactly
+/// where no number of the file is past its limit.
+pub fn file_laws()
+    ensures { FileLaws }
+{}

@@ -9,6 +9,7 @@ pub mod laws;
 mod nodes;
 mod order;
 mod problem;
+mod reading;
 mod texts;
 
 pub use item_sets::ItemSet;
