@@ -6,6 +6,7 @@ mod ItemSteps
 mod Lines
 mod Nexts
 mod NumberSets
+mod OrderIs
 pub mod Packs
 mod Rights
 mod Ways

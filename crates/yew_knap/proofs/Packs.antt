@@ -52,7 +52,8 @@ module _ (instance : Instance) (limits : IsWithinLimits instance) where
   member-all : (P : Member KnapNode → Type 0) → AllByRecursion P members → (m : Member KnapNode) → Contains members m → P m
   member-all P a m stands = All-contains P members m (All-from_recursion P members a) stands
 
-  member-sound : (m : Member KnapNode) → Contains members m → IsNode instance m.node
+  -- each member of the tree is a node
+  pub member-sound : (m : Member KnapNode) → Contains members m → IsNode instance m.node
   member-sound = member-all (λ m. IsNode instance m.node) (tree-sound (knapsack-ranked instance) (root_of instance) root)
 
   member-at : (m : Member KnapNode) → Contains members m → node_at (children_of instance) (root_of instance) m.path ≡ Some m.node

@@ -40,7 +40,7 @@ impl Knapsack {
     ghost use Rattle.yew_knap.specs.SearchedOrder.{searched_order};
 
     /// The problem of at most 256 items.
-    pub fn new(capacity: u64, items: Vec<Item>) -> Result<Knapsack, Memory>
+    pub(crate) fn new(capacity: u64, items: Vec<Item>) -> Result<Knapsack, Memory>
         requires { length items.items ≤ 256 }
         ensures { IfOk result (λ problem. problem ≡ record { capacity = capacity; items = items.items }) }
     {
@@ -53,21 +53,23 @@ impl Knapsack {
     }
 
     /// The weight that can be carried.
-    pub fn capacity(&self) -> u64
+    #[inline]
+    pub(crate) fn capacity(&self) -> u64
         ensures { result ≡ self.now.capacity }
     {
         self.capacity
     }
 
     /// The items in the order of the file.
-    pub fn items(&self) -> &[Item]
+    pub(crate) fn items(&self) -> &[Item]
         ensures { result.now ≡ self.now.items }
     {
         self.items.as_slice()
     }
 
     /// The items in the order in which they are tried.
-    pub fn order(&self) -> &[Numbered]
+    #[inline]
+    pub(crate) fn order(&self) -> &[Numbered]
         ensures { result.now ≡ searched_order self.now }
     {
         self.order.as_slice()

@@ -3,7 +3,8 @@
 
 ghost use Rattle.yew_knap.specs.Answers.{TreePacks};
 ghost use Rattle.yew_knap.specs.Files.{FileLaws};
-ghost use Rattle.yew_knap.specs.Instance.{IsWithinLimits};
+ghost use Rattle.yew_knap.specs.Instance.{Instance, IsWithinLimits};
+ghost use Rattle.yew_knap.specs.SearchedOrder.{searched_order, IsSearchedOrder};
 
 use crate::knapsack::Knapsack;
 
@@ -20,4 +21,9 @@ pub fn tree_packs(problem: &Knapsack)
 /// where no number of the file is past its limit.
 pub fn file_laws()
     ensures { FileLaws }
+{}
+
+/// The order in which items are tried is the items of the file, and no item stands before one that is in front of it.
+pub fn order_law()
+    ensures { (instance : Instance) → IsSearchedOrder instance (searched_order instance) }
 {}

@@ -1,5 +1,8 @@
-//! The 0/1 knapsack problem as a problem of tree search: from the items of a file, the sets of items that can be
-//! carried, one node a set, with Dantzig's bound.
+//! The 0/1 knapsack problem as a problem of tree search.
+//!
+//! [`read`] makes the problem of a file. A node of its tree is a set of items that can be carried, its worth is the total
+//! profit and 1, and its bound is Dantzig's. The sets of the nodes are all sets that can be carried, each once, so the
+//! greatest worth of the tree tells the best profit. [`Knapsack::best_text`] and [`Knapsack::reach_text`] spell answers.
 #![tactic(auto)]
 
 mod bounds;
@@ -12,7 +15,9 @@ mod problem;
 mod reading;
 mod texts;
 
-pub use item_sets::ItemSet;
-pub use knapsack::{Item, Knapsack};
+#[cfg(test)]
+mod tests;
+
+pub use knapsack::Knapsack;
 pub use nodes::{KnapKids, KnapNode};
-pub use order::Numbered;
+pub use reading::read;

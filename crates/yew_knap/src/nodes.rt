@@ -9,16 +9,17 @@ use crate::order::Numbered;
 /// searched order after the item that was added last.
 #[derive(Clone, Copy, Debug, PartialEq, Eq)]
 pub struct KnapNode {
-    pub profit: u64,
-    pub room: u64,
-    pub next: usize,
-    pub chosen: ItemSet,
+    pub(crate) profit: u64,
+    pub(crate) room: u64,
+    pub(crate) next: usize,
+    pub(crate) chosen: ItemSet,
 }
 
 impl KnapNode {
     ghost use Rattle.yew_knap.specs.Nodes.{added};
 
     /// The set with the item at a place of the searched order.
+    #[inline]
     pub(crate) fn with(&self, place: usize, item: &Numbered) -> KnapNode
         requires index { item.now.index < 256 }
         requires fits { item.now.weight ≤ self.now.room }
@@ -38,6 +39,6 @@ impl KnapNode {
 /// The sets with one more item that are still to come: the set without it, and the place of the next item to try.
 #[derive(Clone, Copy, Debug, PartialEq, Eq)]
 pub struct KnapKids {
-    pub parent: KnapNode,
-    pub next: usize,
+    pub(crate) parent: KnapNode,
+    pub(crate) next: usize,
 }

@@ -47,6 +47,7 @@ impl Problem for Knapsack {
         })
     }
 
+    #[inline]
     fn open(&self, _alloc: Global, node: KnapNode) -> Result<KnapKids, Memory> {
         Ok(KnapKids {
             next: node.next,
@@ -54,6 +55,7 @@ impl Problem for Knapsack {
         })
     }
 
+    #[inline]
     fn next(&self, _alloc: Global, kids: &mut KnapKids) -> Result<Option<KnapNode>, Memory> {
         let order = self.order();
         for place in kids.next..order.len() {
@@ -67,10 +69,12 @@ impl Problem for Knapsack {
         Ok(None)
     }
 
+    #[inline]
     fn worth(&self, node: &KnapNode) -> u64 {
         node.profit + 1
     }
 
+    #[inline]
     fn bound(&self, node: &KnapNode) -> u64 {
         node.profit + greedy_gain(&self.order()[node.next..], node.room) + 1
     }
