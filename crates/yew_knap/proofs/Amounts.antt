@@ -1,5 +1,5 @@
 -- The profit and the weight of a node's set, over item numbers and over the searched order.
-use Rattle.std.proofs.Common.{◌≡◌, ℕ, zero, suc, ◌+◌, ◌-◌, ◌<◌, ◌≤◌, ◌∙◌, Bool, true, false, cond, ◌==◌, List, [], ◌∷◌, length, drop, get_or, nat_le, if◌then◌else◌, refl, ap, sym, subst, inl, inr, arith}
+use Rattle.std.proofs.Common.{◌≡◌, ℕ, zero, suc, ◌+◌, ◌-◌, ◌<◌, ◌≤◌, ◌∙◌, Bool, true, false, cond, List, [], ◌∷◌, length, drop, get_or, nat_le, if◌then◌else◌, refl, ap, sym, subst, inl, inr, arith}
 use Rattle.std.specs.List.{AllByRecursion, filter, range_with_len, sum_by}
 use Rattle.std.proofs.lemmas.Bool.{and_from, cases_eq, le-leb}
 use Rattle.std.proofs.lemmas.Bool.Decides.{nat_tests}
@@ -13,7 +13,7 @@ use Rattle.yew_knap.specs.Instance.{Instance}
 use Rattle.yew_knap.specs.ItemSets.{has_item}
 use Rattle.yew_knap.specs.Nodes.{chosen_of, amount_in, IsNode}
 use Rattle.yew_knap.specs.OrderLaws.{only_item, sum_by-searched_order}
-use Rattle.yew_knap.specs.Packings.{item_at, profit_of, weight_of, is_packing}
+use Rattle.yew_knap.specs.Packings.{item_at, profit_of, weight_of}
 use Rattle.yew_knap.specs.SearchedOrder.{numbered, all_numbered, searched_order}
 use Rattle.yew_knap.proofs.NumberSets.{filter-set}
 

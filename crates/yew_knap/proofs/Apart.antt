@@ -1,9 +1,8 @@
 -- Different paths of the tree lead to different sets.
-use Rattle.std.proofs.Common.{◌≡◌, ℕ, zero, suc, ◌+◌, ◌-◌, ◌<◌, ◌≤◌, ◌∙◌, Bool, true, false, ◌||◌, ◌==◌, List, [], ◌∷◌, length, take, drop, slice_get, Option, Some, nat_le, if◌then◌else◌, refl, ap, ap₂, sym, subst, inl, inr, arith, add-one}
+use Rattle.std.proofs.Common.{◌≡◌, ℕ, zero, suc, ◌+◌, ◌<◌, ◌≤◌, ◌∙◌, Bool, true, false, ◌||◌, ◌==◌, List, [], ◌∷◌, length, take, drop, slice_get, Some, nat_le, if◌then◌else◌, refl, ap, ap₂, sym, subst, inl, inr, arith}
 use Rattle.std.specs.List.{AllByRecursion}
 use Rattle.std.proofs.lemmas.Bool.{cases_order, true≢false}
 use Rattle.std.proofs.lemmas.Bool.Decides.{nat_tests}
-use Rattle.std.proofs.lemmas.List.{take-take}
 use Rattle.std.proofs.lemmas.Option.{same_Some, none-some, option_and_then_some}
 use Rattle.yew_laws.specs.Tree.{node_at}
 use Rattle.yew_laws.proofs.Members.{AllByRecursion-weaker, AllByRecursion-at}
@@ -12,7 +11,6 @@ use Rattle.yew_knap.specs.declared.order.Numbered.{Numbered}
 use Rattle.yew_knap.specs.BoundLaws.{Grows, grows-along}
 use Rattle.yew_knap.specs.Instance.{Instance}
 use Rattle.yew_knap.specs.ItemSets.{has_item, with_item}
-use Rattle.yew_knap.specs.Lists.{AllByRecursion-take}
 use Rattle.yew_knap.specs.NodeLaws.{IsOther, IsNext, IsAdded, item_small, others_before, has_added, none_from, absent, child-at, added-sound}
 use Rattle.yew_knap.specs.Nodes.{added, with_one_more, children_of, IsNode}
 use Rattle.yew_knap.specs.SearchedOrder.{searched_order}

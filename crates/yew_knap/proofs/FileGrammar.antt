@@ -1,15 +1,15 @@
 -- The laws of knapsack files.
-use Rattle.std.proofs.Common.{◌≡◌, ℕ, zero, suc, ◌+◌, ◌*◌, ◌<◌, ◌≤◌, ◌^◌, Bool, true, false, cond, ltb, List, [], ◌∷◌, ◌++◌, length, Option, Some, None, refl, sym, ap, subst, ◌∙◌, arith, inl, inr}
+use Rattle.std.proofs.Common.{◌≡◌, ℕ, zero, suc, ◌+◌, ◌*◌, ◌<◌, ◌≤◌, Bool, true, cond, ltb, List, [], ◌∷◌, ◌++◌, length, Some, None, refl, sym, ap, subst, ◌∙◌, arith, inl, inr}
 use Rattle.std.specs.Prelude.{flat_map}
 use Rattle.std.specs.List.{AllZip, AllByRecursion}
-use Rattle.std.proofs.lemmas.Bool.{cases_Bool, cases_lt, ltb-true, ltb-false, lt-ltb, le-ltb}
+use Rattle.std.proofs.lemmas.Bool.{cases_Bool, ltb-true, ltb-false, lt-ltb, le-ltb}
 use Rattle.std.proofs.lemmas.List.{length-append}
 use Rattle.yew_text.specs.Words.{TextWord, words_of, end_line}
 use Rattle.yew_text.specs.Numbers.{greatest, IsNumber, Fault}
-use Rattle.yew_text.specs.Grammar.{Due, DueBelow, DueEnd, due_number, Fits, HasBound, IsBounded, AreDue, IsWhole, Limited, is_past, first_past}
+use Rattle.yew_text.specs.Grammar.{Due, DueBelow, DueEnd, due_number, Fits, IsBounded, AreDue, IsWhole, Limited, is_past, first_past}
 use Rattle.yew_text.proofs.Readings.{one_offence, not_both, one_list, all_fit, either_of}
 use Rattle.yew_knap.specs.declared.knapsack.Item.{Item}
-use Rattle.yew_knap.specs.Files.{item_numbers, instance_numbers, knapsack_shape, head_limits, item_limits, instance_limits, IsKnapsackFile, FileLaws}
+use Rattle.yew_knap.specs.Files.{item_numbers, instance_numbers, knapsack_shape, item_limits, instance_limits, FileLaws}
 use Rattle.yew_knap.specs.Instance.{Instance, IsSmallItem, IsWithinLimits}
 
 pub bounds : IsBounded knapsack_shape

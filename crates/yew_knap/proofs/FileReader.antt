@@ -1,19 +1,18 @@
 -- What the parts of a reading show of the file.
-use Rattle.std.proofs.Common.{◌≡◌, ℕ, suc, ◌*◌, ◌≤◌, List, [], ◌∷◌, ◌++◌, length, Option, Some, None, Result, Ok, Err, refl, sym, ap, subst, ◌∙◌, arith}
+use Rattle.std.proofs.Common.{◌≡◌, ℕ, ◌*◌, List, [], ◌∷◌, ◌++◌, length, Option, Some, None, Ok, Err, refl, sym, ap, subst, ◌∙◌, arith}
 use Rattle.std.specs.Prelude.{flat_map}
 use Rattle.std.specs.Option.{option_map}
 use Rattle.std.proofs.lemmas.Bool.{le-ltb}
 use Rattle.yew_text.specs.declared.text.FileEnd.{FileEnd}
 use Rattle.yew_text.specs.declared.text.FileEnd.TheVariants.{Refused, TooLarge, Memory}
 use Rattle.yew_text.specs.declared.text.TextFault.{TextFault}
-use Rattle.yew_text.specs.Numbers.{Fault}
 use Rattle.yew_text.specs.Position.{Position, start_of, words_left, SameText}
 use Rattle.yew_text.specs.Reading.{TakesNumber, IsSurplus, text_fault}
 use Rattle.yew_text.specs.Grammar.{DueEnd, first_past, reading}
 use Rattle.yew_text.proofs.Steps.{refusal, reading_next, reading_fault, reading_whole, reading_surplus, reading_is_whole, reading_is_offence}
 use Rattle.yew_knap.specs.declared.knapsack.Item.{Item}
 use Rattle.yew_knap.specs.declared.reading.Past.{Past}
-use Rattle.yew_knap.specs.Files.{item_numbers, knapsack_shape, instance_limits, head_limits, item_limits, IsKnapsackFile, IsKnapsackOffence, IsPastLimit, EndsReading}
+use Rattle.yew_knap.specs.Files.{knapsack_shape, instance_limits, head_limits, item_limits, IsKnapsackFile, IsKnapsackOffence, IsPastLimit, EndsReading}
 use Rattle.yew_knap.specs.Instance.{Instance, IsWithinLimits}
 use Rattle.yew_knap.specs.Reading.{limited, ItemsRead, EndsItems}
 use Rattle.yew_knap.proofs.FileGrammar.{bounds, within}

@@ -1,11 +1,10 @@
 -- One item more of a knapsack file.
-use Rattle.std.proofs.Common.{◌≡◌, ℕ, suc, ◌+◌, ◌*◌, ◌<◌, List, [], ◌∷◌, ◌++◌, length, Option, Some, None, Result, Ok, Err, true, false, cond, refl, sym, ap, subst, ◌∙◌, append_assoc, arith}
-use Rattle.std.specs.Prelude.{flat_map, find}
+use Rattle.std.proofs.Common.{◌≡◌, ℕ, suc, ◌+◌, ◌*◌, ◌<◌, List, [], ◌∷◌, ◌++◌, length, Option, Some, None, Ok, Err, true, false, cond, refl, sym, ap, ◌∙◌, append_assoc, arith}
+use Rattle.std.specs.Prelude.{flat_map}
 use Rattle.std.specs.Option.{option_map}
 use Rattle.std.proofs.lemmas.Bool.{lt-ltb}
 use Rattle.std.proofs.lemmas.List.{length-append}
 use Rattle.yew_text.specs.declared.text.TextFault.{TextFault}
-use Rattle.yew_text.specs.Numbers.{Fault}
 use Rattle.yew_text.specs.Position.{Position, SameText}
 use Rattle.yew_text.specs.Reading.{TakesNumber, text_fault}
 use Rattle.yew_text.specs.Grammar.{due_number, Limited, is_past, first_past, reading}

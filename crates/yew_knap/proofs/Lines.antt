@@ -1,5 +1,5 @@
 -- The line of a set's numbers, one number after another.
-use Rattle.std.proofs.Common.{◌≡◌, ℕ, suc, ◌+◌, ◌-◌, ◌<◌, ◌∙◌, Bool, true, false, cond, List, [], ◌∷◌, ◌++◌, append_assoc, refl, ap, sym, arith}
+use Rattle.std.proofs.Common.{◌≡◌, ℕ, suc, ◌+◌, ◌-◌, ◌<◌, ◌∙◌, true, false, cond, List, ◌∷◌, ◌++◌, append_assoc, ap, sym, arith}
 use Rattle.std.specs.List.{filter, flat_map, range_with_len}
 use Rattle.yew_lines.specs.Spelling.{spaced}
 use Rattle.yew_knap.specs.declared.item_sets.ItemSet.{ItemSet}

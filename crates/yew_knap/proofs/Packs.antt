@@ -1,5 +1,5 @@
 -- The sets of the members of the tree are all sets that can be carried, each once.
-use Rattle.std.proofs.Common.{◌≡◌, ℕ, zero, suc, ◌+◌, ◌-◌, ◌<◌, ◌≤◌, ◌∙◌, Bool, true, false, max, List, [], ◌∷◌, length, Option, Some, if◌then◌else◌, nat_le, refl, ap, ap₂, sym, subst, inl, inr, arith}
+use Rattle.std.proofs.Common.{◌≡◌, ℕ, ◌+◌, ◌-◌, ◌≤◌, ◌∙◌, Bool, true, List, [], ◌∷◌, length, Some, nat_le, refl, ap, ap₂, sym, subst, inl, inr, arith}
 use Rattle.std.specs.List.{AllByRecursion, Contains, filter, range_with_len, sum_by}
 use Rattle.std.proofs.lemmas.Bool.{and_parts, cases_lt, leb-true}
 use Rattle.std.proofs.lemmas.List.Elements.{All-contains, All-from_recursion}
@@ -8,10 +8,10 @@ use Rattle.yew_laws.specs.Greatest.{greatest_of, greatest}
 use Rattle.yew_laws.specs.SearchTree.{preorder}
 use Rattle.yew_laws.specs.Sets.{contains, is_set}
 use Rattle.yew_laws.specs.Tree.{Member, node_at, root_member, forest, tree}
-use Rattle.yew_laws.proofs.Members.{AllByRecursion-weaker, Contains-head, Contains-tail}
+use Rattle.yew_laws.proofs.Members.{Contains-head, Contains-tail}
 use Rattle.yew_laws.proofs.Trees.{tree-contains, tree-node_at, tree-sound, tree-unfolds}
 use Rattle.yew_knap.specs.declared.nodes.KnapNode.{KnapNode}
-use Rattle.yew_knap.specs.Answers.{knapsack_tree, IsPacked, IsFound, IsMet, TreePacks}
+use Rattle.yew_knap.specs.Answers.{knapsack_tree, IsPacked, IsFound, TreePacks}
 use Rattle.yew_knap.specs.Instance.{Instance, IsWithinLimits}
 use Rattle.yew_knap.specs.ItemSets.{has_item}
 use Rattle.yew_knap.specs.NodeLaws.{knapsack-ranked, root-sound}

@@ -1,5 +1,5 @@
 -- The way to a set: for each set that can be carried the tree has a node with that set.
-use Rattle.std.proofs.Common.{◌≡◌, ℕ, zero, suc, ◌+◌, ◌-◌, ◌<◌, ◌≤◌, ◌∙◌, Bool, true, false, ◌||◌, ◌==◌, List, [], ◌∷◌, length, take, drop, slice_get, Option, Some, nat_le, option_and_then, if◌then◌else◌, refl, ap, sym, subst, arith, add-one, length-drop}
+use Rattle.std.proofs.Common.{◌≡◌, ℕ, zero, suc, ◌+◌, ◌≤◌, ◌∙◌, Bool, true, false, ◌||◌, ◌==◌, List, [], ◌∷◌, length, take, drop, slice_get, Option, Some, nat_le, option_and_then, if◌then◌else◌, refl, ap, sym, subst, arith, length-drop}
 use Rattle.std.specs.List.{AllByRecursion, sum_by}
 use Rattle.std.proofs.lemmas.Bool.{le-leb}
 use Rattle.std.proofs.lemmas.Bool.Decides.{nat_tests}
@@ -10,7 +10,7 @@ use Rattle.yew_laws.proofs.Members.{AllByRecursion-weaker, AllByRecursion-both}
 use Rattle.yew_knap.specs.declared.nodes.KnapNode.{KnapNode}
 use Rattle.yew_knap.specs.declared.order.Numbered.{Numbered}
 use Rattle.yew_knap.specs.Instance.{Instance, IsWithinLimits}
-use Rattle.yew_knap.specs.ItemSets.{has_item, with_item}
+use Rattle.yew_knap.specs.ItemSets.{has_item}
 use Rattle.yew_knap.specs.NodeLaws.{IsOther, IsNext, others_before, has_added, rest_after, none_from, child-sound, root-sound}
 use Rattle.yew_knap.specs.Nodes.{root_of, added, with_one_more, children_of, IsNode}
 use Rattle.yew_knap.specs.SearchedOrder.{searched_order}
@@ -46,19 +46,19 @@ later instance wanted node place item items w =
     at (k ∷ ks) e =
         elim (nat_le item.weight node.room) as (λ b. nat_le item.weight node.room ≡ b → Way instance wanted node place (item ∷ items)) [
           | true ↦ λ fits. record {
-              path = suc k ∷ ks;
-              last = w.last;
-              found =
-                  ap (λ b. option_and_then (λ c. node_at (children_of instance) c ks) (slice_get (if b then added node place item ∷ with_one_more node (place + 1) items else with_one_more node (place + 1) items) (suc k))) fits ∙ e;
-              agrees = w.agrees;
-            }
+            path = suc k ∷ ks;
+            last = w.last;
+            found =
+                ap (λ b. option_and_then (λ c. node_at (children_of instance) c ks) (slice_get (if b then added node place item ∷ with_one_more node (place + 1) items else with_one_more node (place + 1) items) (suc k))) fits ∙ e;
+            agrees = w.agrees;
+          }
           | false ↦ λ heavy. record {
-              path = k ∷ ks;
-              last = w.last;
-              found =
-                  ap (λ b. option_and_then (λ c. node_at (children_of instance) c ks) (slice_get (if b then added node place item ∷ with_one_more node (place + 1) items else with_one_more node (place + 1) items) k)) heavy ∙ e;
-              agrees = w.agrees;
-            }
+            path = k ∷ ks;
+            last = w.last;
+            found =
+                ap (λ b. option_and_then (λ c. node_at (children_of instance) c ks) (slice_get (if b then added node place item ∷ with_one_more node (place + 1) items else with_one_more node (place + 1) items) k)) heavy ∙ e;
+            agrees = w.agrees;
+          }
         ]
         refl
 

@@ -1,5 +1,5 @@
 -- How the tree of sets answers the question of the knapsack.
-use Rattle.std.specs.Prelude.{◌≡◌, ℕ, ◌+◌, ◌-◌, ◌≤◌, ◌<◌, List, Contains, IsTrue, ◌↔◌}
+use Rattle.std.specs.Prelude.{◌≡◌, ℕ, ◌+◌, ◌-◌, ◌≤◌, List, Contains, IsTrue, ◌↔◌}
 use Rattle.yew_laws.specs.Tree.{Member}
 use Rattle.yew_laws.specs.SearchTree.{SearchTree, preorder}
 use Rattle.yew_laws.specs.Greatest.{greatest, Reach}

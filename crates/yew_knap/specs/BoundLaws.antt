@@ -1,7 +1,7 @@
 -- No set at or below a node has more profit than Dantzig's bound allows.
-use Rattle.std.specs.Prelude.{◌≡◌, ℕ, ◌+◌, ◌-◌, ◌*◌, ◌/◌, ◌<◌, ◌≤◌, ◌^◌, Bool, true, false, ◌||◌, ◌==◌, ◌⊎◌, List, [], ◌∷◌, ◌++◌, length, take, drop, sum_by, slice_get, Option, Some, nat_le, if◌then◌else◌, refl}
+use Rattle.std.specs.Prelude.{◌≡◌, ℕ, ◌+◌, ◌-◌, ◌*◌, ◌/◌, ◌<◌, ◌≤◌, ◌^◌, Bool, true, false, ◌||◌, ◌==◌, ◌⊎◌, List, [], ◌∷◌, length, take, drop, sum_by, slice_get, Some, if◌then◌else◌, refl}
 use Rattle.std.specs.List.{AllByRecursion}
-use Rattle.std.proofs.Common.{zero, suc, ap, sym, subst, ◌∙◌, inl, inr, ⊎_elim, arith, add-one, le_trans}
+use Rattle.std.proofs.Common.{zero, suc, ap, subst, ◌∙◌, inl, inr, arith}
 use Rattle.std.proofs.Math.Nat.{mul-le-mul_left, le-div_iff_mul-le, div-le_of_le-mul}
 use Rattle.std.proofs.lemmas.Bool.{cases_lt, le-leb, lt-leb}
 use Rattle.std.proofs.lemmas.Bool.Decides.{nat_tests}
@@ -10,15 +10,14 @@ use Rattle.std.proofs.lemmas.List.Sums.{sum_by-cons, sum_by-take-drop}
 use Rattle.std.proofs.lemmas.Option.{same_Some, option_and_then_some}
 use Rattle.yew_laws.specs.Tree.{node_at, IsBounded}
 use Rattle.yew_laws.proofs.Members.{AllByRecursion-weaker, AllByRecursion-both}
-use Rattle.yew_laws.proofs.Steps.{AllByRecursion-drop}
 use Rattle.yew_knap.specs.declared.item_sets.ItemSet.{ItemSet}
 use Rattle.yew_knap.specs.declared.nodes.KnapNode.{KnapNode}
 use Rattle.yew_knap.specs.declared.order.Numbered.{Numbered}
-use Rattle.yew_knap.specs.Instance.{Instance, IsWithinLimits}
+use Rattle.yew_knap.specs.Instance.{Instance}
 use Rattle.yew_knap.specs.ItemSets.{has_item, with_item}
 use Rattle.yew_knap.specs.Lists.{AllByRecursion-all, AllByRecursion-take, sum_by-agree, sum_by-below, sum_by-none}
 use Rattle.yew_knap.specs.Nodes.{added, children_of, worth_of, dantzig, bound_of, amount_in, IsNode}
-use Rattle.yew_knap.specs.NodeLaws.{IsOther, IsNext, IsAdded, others_before, has_added, child-at, added-sound, none_from}
+use Rattle.yew_knap.specs.NodeLaws.{IsOther, IsNext, others_before, has_added, child-at, added-sound}
 use Rattle.yew_knap.specs.OrderLaws.{NoWorse, FallsInValue, IsSmallNumbered, length-searched_order, searched_order-falls, searched_order-small}
 use Rattle.yew_knap.specs.SearchedOrder.{searched_order}
 
@@ -109,14 +108,14 @@ greedy items room [] f = inl (omega arith)
 greedy items room (x ∷ xs) f =
     elim (cases_lt room x.weight) [
       | inl heavy ↦ inr (record {
-          item = x;
-          profit = 0;
-          left = room;
-          too_heavy = heavy;
-          bound = let e = dantzig-stops room x xs heavy in omega (arith, e);
-          no_better = λ y a. a.0;
-          argument = let d = dominated items x (x ∷ xs) (omega arith, f.0) in omega (arith, d);
-        })
+        item = x;
+        profit = 0;
+        left = room;
+        too_heavy = heavy;
+        bound = let e = dantzig-stops room x xs heavy in omega (arith, e);
+        no_better = λ y a. a.0;
+        argument = let d = dominated items x (x ∷ xs) (omega arith, f.0) in omega (arith, d);
+      })
       | inr fits ↦
           elim (greedy items (room - x.weight) xs f.1) [
             | inl all ↦ inl (let p = sum_by-cons (profit_in items) x xs in let own = amount_in-le (λ item. item.profit) items x in let e = dantzig-fits room x xs fits in omega (arith, p, own, e, all))

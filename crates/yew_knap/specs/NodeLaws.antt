@@ -1,8 +1,8 @@
 -- The children of a node are nodes, of less rank.
-use Rattle.std.specs.Prelude.{◌≡◌, ℕ, ◌+◌, ◌-◌, ◌<◌, ◌≤◌, ◌^◌, Bool, true, false, ◌||◌, ◌==◌, List, [], ◌∷◌, ◌++◌, length, take, drop, sum_by, slice_get, Option, Some, nat_le, if◌then◌else◌, refl}
+use Rattle.std.specs.Prelude.{◌≡◌, ℕ, ◌+◌, ◌-◌, ◌<◌, ◌≤◌, ◌^◌, Bool, true, false, ◌||◌, ◌==◌, List, [], ◌∷◌, ◌++◌, length, take, drop, sum_by, slice_get, Some, nat_le, if◌then◌else◌, refl}
 use Rattle.std.specs.List.{AllByRecursion}
-use Rattle.std.proofs.Common.{zero, suc, ap, sym, subst, ◌∙◌, inl, inr, arith, add-one, length-drop, take-append-drop}
-use Rattle.std.proofs.lemmas.Bool.{cases_eq, leb-true}
+use Rattle.std.proofs.Common.{ap, sym, subst, ◌∙◌, arith, add-one, length-drop, take-append-drop}
+use Rattle.std.proofs.lemmas.Bool.{leb-true}
 use Rattle.std.proofs.lemmas.Bool.Decides.{nat_tests}
 use Rattle.std.proofs.lemmas.List.{drop-drop}
 use Rattle.std.proofs.lemmas.List.Sums.{sum_by-cons, sum_by-append}
@@ -99,7 +99,7 @@ module _ (instance : Instance) (place : ℕ) (item : Numbered) (after : List Num
   sum_by-added amount items size limits absent =
       let both = sum_by-plus (amount_in amount items) (λ y. if y.index == item.index then amount y else 0) order in
       let each = sum_by-agree (amount_in amount (with_item items item.index)) (λ y. amount_in amount items y + (if y.index == item.index then amount y else 0)) order
-          (AllByRecursion-all (λ y. amount_in amount (with_item items item.index) y ≡ amount_in amount items y + (if y.index == item.index then amount y else 0)) one order) in
+      (AllByRecursion-all (λ y. amount_in amount (with_item items item.index) y ≡ amount_in amount items y + (if y.index == item.index then amount y else 0)) one order) in
       let there = amount_there amount in
       omega (arith, both, each, there)
     where

@@ -1,5 +1,5 @@
 -- The tree of the sets of items that can be carried.
-use Rattle.std.specs.Prelude.{◌≡◌, ℕ, ◌+◌, ◌-◌, ◌*◌, ◌/◌, ◌≤◌, Bool, false, List, [], ◌∷◌, length, drop, filter, sum_by, nat_le, if◌then◌else◌}
+use Rattle.std.specs.Prelude.{◌≡◌, ℕ, ◌+◌, ◌-◌, ◌*◌, ◌/◌, ◌≤◌, false, List, [], ◌∷◌, length, drop, filter, sum_by, nat_le, if◌then◌else◌}
 use Rattle.std.specs.List.{AllByRecursion, range_with_len}
 use Rattle.yew_knap.specs.declared.item_sets.ItemSet.{ItemSet}
 use Rattle.yew_knap.specs.declared.nodes.KnapNode.{KnapNode}

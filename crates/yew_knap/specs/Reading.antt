@@ -1,5 +1,5 @@
 -- What the parts of a reading of a knapsack file answer.
-use Rattle.std.specs.Prelude.{◌≡◌, ℕ, List, [], ◌∷◌, ◌++◌, length, flat_map, Option, Some, None, Result, Err}
+use Rattle.std.specs.Prelude.{◌≡◌, ℕ, List, [], ◌∷◌, ◌++◌, length, flat_map, Option, Some, None, Err}
 use Rattle.std.specs.Option.{option_map}
 use Rattle.yew_text.specs.declared.text.FileEnd.{FileEnd}
 use Rattle.yew_text.specs.declared.text.FileEnd.TheVariants.{Refused, TooLarge, Memory}

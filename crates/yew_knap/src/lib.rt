@@ -13,10 +13,9 @@ mod nodes;
 mod order;
 mod problem;
 mod reading;
-mod texts;
-
 #[cfg(test)]
 mod tests;
+mod texts;
 
 pub use knapsack::Knapsack;
 pub use nodes::{KnapKids, KnapNode};

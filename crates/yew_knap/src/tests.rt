@@ -50,7 +50,11 @@ fn set_at(alloc: Global, problem: &Knapsack, numbers: &[u32]) -> Result<Option<I
 }
 
 /// The set of the next child.
-fn next_set(alloc: Global, problem: &Knapsack, kids: &mut KnapKids) -> Result<Option<ItemSet>, Memory>
+fn next_set(
+    alloc: Global,
+    problem: &Knapsack,
+    kids: &mut KnapKids,
+) -> Result<Option<ItemSet>, Memory>
     requires root { IsNode problem.now (root_of problem.now) }
     requires kids { AllByRecursion (IsNode problem.now) (remaining_of problem.now kids.old) }
     ensures { AllByRecursion (IsNode problem.now) (remaining_of problem.now kids.new) }
@@ -97,13 +101,28 @@ fn gives_the_children_in_order(rt: HostRuntime) -> Result<(), Fail> {
     let root = problem.root(rt.alloc())?;
     assert_eq!(rt; root.chosen, ItemSet::empty());
     let empty = ItemSet::empty();
-    assert_eq!(rt; set_at(rt.alloc(), &problem, &[0, 0])?, Some(empty.with(3).with(1)));
+    assert_eq!(rt;
+        set_at(rt.alloc(), &problem, &[0, 0])?,
+        Some(empty.with(3).with(1))
+    );
     assert_eq!(rt; set_at(rt.alloc(), &problem, &[0, 3])?, None);
     let mut kids = problem.open(rt.alloc(), root)?;
-    assert_eq!(rt; next_set(rt.alloc(), &problem, &mut kids)?, Some(empty.with(3)));
-    assert_eq!(rt; next_set(rt.alloc(), &problem, &mut kids)?, Some(empty.with(1)));
-    assert_eq!(rt; next_set(rt.alloc(), &problem, &mut kids)?, Some(empty.with(2)));
-    assert_eq!(rt; next_set(rt.alloc(), &problem, &mut kids)?, Some(empty.with(0)));
+    assert_eq!(rt;
+        next_set(rt.alloc(), &problem, &mut kids)?,
+        Some(empty.with(3))
+    );
+    assert_eq!(rt;
+        next_set(rt.alloc(), &problem, &mut kids)?,
+        Some(empty.with(1))
+    );
+    assert_eq!(rt;
+        next_set(rt.alloc(), &problem, &mut kids)?,
+        Some(empty.with(2))
+    );
+    assert_eq!(rt;
+        next_set(rt.alloc(), &problem, &mut kids)?,
+        Some(empty.with(0))
+    );
     assert_eq!(rt; next_set(rt.alloc(), &problem, &mut kids)?, None);
     assert_eq!(rt; next_set(rt.alloc(), &problem, &mut kids)?, None);
     Ok(())
@@ -179,23 +198,55 @@ fn reads_files(rt: HostRuntime) -> Result<(), Fail> {
 fn refuses_files(rt: HostRuntime) -> Result<(), Fail> {
     for (bytes, kind, line) in [
         (b"".as_slice(), TextKind::EndsEarly, 1),
-        (b"4 10\n10 5\n40 4\n30 6\n50\n".as_slice(), TextKind::EndsEarly, 6),
-        (b"4 10\n10 5\n40 4\n30 6\n50 3\n1\n".as_slice(), TextKind::Surplus, 6),
-        (b"4 10\n10 5\n40 4\n30 6\n50 x5\n".as_slice(), TextKind::NotNumber, 5),
+        (
+            b"4 10\n10 5\n40 4\n30 6\n50\n".as_slice(),
+            TextKind::EndsEarly,
+            6,
+        ),
+        (
+            b"4 10\n10 5\n40 4\n30 6\n50 3\n1\n".as_slice(),
+            TextKind::Surplus,
+            6,
+        ),
+        (
+            b"4 10\n10 5\n40 4\n30 6\n50 x5\n".as_slice(),
+            TextKind::NotNumber,
+            5,
+        ),
         (b"4 10\n10 -5\n".as_slice(), TextKind::NotNumber, 2),
         (b"9223372036854775808 5\n".as_slice(), TextKind::TooBig, 1),
-        (b"9223372036854775807 5\n".as_slice(), TextKind::EndsEarly, 2),
-        (b"1 1099511627776\n2147483648\n".as_slice(), TextKind::EndsEarly, 3),
+        (
+            b"9223372036854775807 5\n".as_slice(),
+            TextKind::EndsEarly,
+            2,
+        ),
+        (
+            b"1 1099511627776\n2147483648\n".as_slice(),
+            TextKind::EndsEarly,
+            3,
+        ),
     ] {
         assert_eq!(rt; refusal(rt.alloc(), bytes), Some((kind, line)));
     }
     let many = equal_items(rt.alloc(), 257, 5, 1)?;
     assert_eq!(rt; past_limit(rt.alloc(), many.as_slice()), Some((257, 256)));
     for (bytes, number, limit) in [
-        (b"0 1099511627776\n".as_slice(), 1099511627776, 1099511627775),
+        (
+            b"0 1099511627776\n".as_slice(),
+            1099511627776,
+            1099511627775,
+        ),
         (b"1 5\n2147483648 1\n".as_slice(), 2147483648, 2147483647),
-        (b"2 5\n1 1\n1 2147483648\n".as_slice(), 2147483648, 2147483647),
-        (b"1 1099511627776\n2147483648 1\n".as_slice(), 1099511627776, 1099511627775),
+        (
+            b"2 5\n1 1\n1 2147483648\n".as_slice(),
+            2147483648,
+            2147483647,
+        ),
+        (
+            b"1 1099511627776\n2147483648 1\n".as_slice(),
+            1099511627776,
+            1099511627775,
+        ),
     ] {
         assert_eq!(rt; past_limit(rt.alloc(), bytes), Some((number, limit)));
     }

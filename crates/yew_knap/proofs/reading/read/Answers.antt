@@ -1,6 +1,6 @@
-use Rattle.std.proofs.Common.{◌≡◌, ◌∙◌, rules, sym, subst, refl}
+use Rattle.std.proofs.Common.{sym, subst}
 use Rattle.yew_knap.specs.Files.{IsKnapsackFile}
-use Rattle.yew_knap.specs.Instance.{Instance, IsWithinLimits}
+use Rattle.yew_knap.specs.Instance.{IsWithinLimits}
 use Rattle.yew_knap.specs.NodeLaws.{root-sound}
 use Rattle.yew_knap.proofs.FileReader.{first_fault, second_fault, items_end, surplus, too_large, is_file, is_within}
 use Rattle.yew_knap.proofs.reading.read.Goals as goal

@@ -1,4 +1,4 @@
-use Rattle.std.proofs.Common.{◌≡◌, List, ℕ, Option, Some, None, Result, Ok, Err, IfOk, IfSome, Contains}
+use Rattle.std.proofs.Common.{List, ℕ, Option, Some, None, Result, Ok, Err, IfOk, IfSome, Contains}
 use Rattle.yew_laws.specs.declared.memory.Memory.{Memory}
 use Rattle.yew_laws.specs.SearchTree.{preorder}
 use Rattle.yew_knap.specs.declared.nodes.KnapNode.{KnapNode}

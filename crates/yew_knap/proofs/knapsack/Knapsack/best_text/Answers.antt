@@ -1,4 +1,4 @@
-use Rattle.std.proofs.Common.{◌≡◌, ◌-◌, rules, arith}
+use Rattle.std.proofs.Common.{◌≡◌, ◌-◌, rules}
 use Rattle.yew_knap.specs.Nodes.{chosen_of}
 use Rattle.yew_knap.specs.Texts.{best_lines}
 use Rattle.yew_knap.proofs.Rights.{best-right}
