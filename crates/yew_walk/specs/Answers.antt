@@ -1,0 +1,38 @@
+-- What the answers of a search say of its tree.
+use Rattle.std.specs.Prelude.{◌≡◌, ℕ, ◌≤◌, ◌↔◌, Option, IsSome, IfSome, IsSomeAnd}
+use Rattle.yew_kinds.specs.declared.kind.Answer.{Answer}
+use Rattle.yew_kinds.specs.declared.kind.Answer.TheVariants.{Count, Best, Reach}
+use Rattle.yew_kinds.specs.Wrappers.{clipped_tree}
+use Rattle.yew_laws.specs.Greatest.{greatest, first_best, Reach as Reached}
+use Rattle.yew_laws.specs.PathValue.{PathValue}
+use Rattle.yew_laws.specs.SearchTree.{SearchTree, worth_at}
+use Rattle.yew_walk.specs.Hands.{numbers_of}
+
+-- the greatest worth, and the first path in preorder that has it
+pub record IsBest {N : Type 0} (t : SearchTree N) (worth : ℕ) (path : Option PathValue) : Type 0 where
+  pub worth_is : worth ≡ greatest t
+  pub path_is : numbers_of path ≡ first_best t
+
+-- the first path in preorder whose node has at least the target as its worth: there is one exactly where some node has
+pub record IsReached {N : Type 0} (t : SearchTree N) (target : ℕ) (path : Option PathValue) : Type 0 where
+  pub path_is : numbers_of path ≡ first_best (clipped_tree t target)
+  pub exists : IsSome path ↔ Reached t target
+  pub meets : IfSome path (λ p. IsSomeAnd (worth_at t p.numbers) (λ worth. target ≤ worth))
+
+-- the answer of a count
+abbrev pub IsCountAnswer : {S : Type 0} → S → Answer S → Type 0
+IsCountAnswer fold (Count sum) = sum ≡ fold
+IsCountAnswer fold (Best worth path) = ⊥
+IsCountAnswer fold (Reach path) = ⊥
+
+-- the answer of a search for a best node
+abbrev pub IsBestAnswer : {N S : Type 0} → SearchTree N → Answer S → Type 0
+IsBestAnswer t (Count sum) = ⊥
+IsBestAnswer t (Best worth path) = IsBest t worth path
+IsBestAnswer t (Reach path) = ⊥
+
+-- the answer of a decision
+abbrev pub IsReachAnswer : {N S : Type 0} → SearchTree N → ℕ → Answer S → Type 0
+IsReachAnswer t target (Count sum) = ⊥
+IsReachAnswer t target (Best worth path) = ⊥
+IsReachAnswer t target (Reach path) = IsReached t target path

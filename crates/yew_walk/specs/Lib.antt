@@ -1,0 +1,5 @@
+pub mod Answers
+pub mod Hands
+pub mod Kinds
+pub mod SmallTree
+pub mod Walks
