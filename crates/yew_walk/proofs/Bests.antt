@@ -1,16 +1,18 @@
 -- The first best path of a tree leads to a member that has the greatest worth.
-use Rattle.std.proofs.Common.{◌≡◌, ◌≤◌, ◌↔◌, ℕ, true, false, List, Option, Some, None, ◌==◌, if◌then◌else◌, IsSome, IfSome, IsSomeAnd, IfNone, All, ◌≢◌, Contains, refl, ap, sym, subst, ◌∙◌}
+use Rattle.std.proofs.Common.{◌≡◌, ◌<◌, ◌≤◌, ◌↔◌, ℕ, true, false, List, Option, Some, None, ◌==◌, if◌then◌else◌, IsSome, IsNone, IfSome, IsSomeAnd, IfNone, All, ◌≢◌, Contains, refl, ap, sym, subst, ◌∙◌, arith}
 use Rattle.std.specs.Option.{option_map}
+use Rattle.std.proofs.lemmas.Bool.Decides.{nat_tests}
 use Rattle.std.proofs.lemmas.List.Elements.{All-contains, All-from_recursion}
 use Rattle.std.proofs.lemmas.Option.{none-some, same_Some}
 use Rattle.yew_laws.specs.Tree.{Member, IsRanked}
 use Rattle.yew_laws.specs.SearchTree.{SearchTree, preorder, at_path, worth_at}
 use Rattle.yew_laws.specs.Greatest.{greatest, first_best, first_with}
 use Rattle.yew_laws.specs.PathValue.{PathValue}
+use Rattle.yew_laws.proofs.PathTests.{nat-is}
 use Rattle.yew_laws.proofs.Trees.{tree-node_at, tree-contains}
 use Rattle.yew_kinds.specs.Wrappers.{clipped_tree}
-use Rattle.yew_kinds.proofs.Clipping.{first_with-worth, first_best-is, first_best-meets}
-use Rattle.yew_walk.specs.Answers.{IsReached}
+use Rattle.yew_kinds.proofs.Clipping.{first_with-greatest, first_with-worth, first_best-is, first_best-meets}
+use Rattle.yew_walk.specs.Answers.{IsBest, IsReached}
 use Rattle.yew_walk.specs.Hands.{numbers_of}
 
 -- a member of a tree that has the greatest worth, at this path
@@ -100,3 +102,49 @@ first_best-reached t ranked s target path e =
       exists = (λ h. found.0 (subst IsSome e (some.0 h)), λ r. some.1 (subst IsSome (sym e) (found.1 r)));
       meets = IfSome-numbers_of Meets path (subst (λ (o : Option (List ℕ)). IfSome o Meets) (sym e) best);
     }
+
+none-not-some : {X : Type 0} (o : Option X) → IsNone o → IsSome o → ⊥
+none-not-some None none some = absurd (cc)
+none-not-some (Some x) none some = absurd (cc)
+
+IsNone-numbers_of : (path : Option PathValue) → IsNone path ↔ IsNone (numbers_of path)
+IsNone-numbers_of None = (λ h. refl, λ h. refl)
+IsNone-numbers_of (Some p) = (λ h. absurd (cc), λ h. absurd (cc))
+
+module _ {N : Type 0} (t : SearchTree N) where
+  -- there is no first best path exactly where the greatest worth is 0
+  first_best-absent : IsNone (first_best t) ↔ (greatest t ≡ 0)
+  first_best-absent =
+      let top = greatest t in
+      elim (top == 0) as (λ b. (top == 0) ≡ b → IsNone (if b then None else first_with t.worth top (preorder t)) ↔ (top ≡ 0)) [
+        | true ↦ λ is. (λ h. nat-is top 0 is, λ zero. refl)
+        | false ↦ λ is.
+            let above : 0 < top = grind (arith, nat_tests) in
+            let some = first_with-greatest t.worth top (preorder t) refl above in
+            (λ h. absurd (none-not-some (first_with t.worth top (preorder t)) h some), λ zero. absurd (omega (arith, zero, above)))
+      ]
+      refl
+
+  -- and its node has the greatest worth
+  first_best-worth : {sound : N → Type 0} → IsRanked sound t.children t.rank → sound t.root → IfSome (first_best t) (λ path. worth_at t path ≡ Some (greatest t))
+  first_best-worth ranked s =
+      let top = greatest t in
+      elim (top == 0) as (λ b. IfSome (if b then None else first_with t.worth top (preorder t)) (λ path. worth_at t path ≡ Some top)) [
+        | true ↦ tt
+        | false ↦ first_with-worth t.worth (at_path t) top (preorder t) (tree-node_at ranked t.root s)
+      ]
+
+  -- the greatest worth and the first best path answer the search for a best node
+  pub first_best-best : {sound : N → Type 0} → IsRanked sound t.children t.rank → sound t.root → (worth : ℕ) (path : Option PathValue) → worth ≡ greatest t → numbers_of path ≡ first_best t → IsBest t worth path
+  first_best-best ranked s worth path worth_is path_is =
+      let none = IsNone-numbers_of path in
+      let absent = first_best-absent in
+      let Attains : List ℕ → Type 0 = λ p. worth_at t p ≡ Some worth in
+      record {
+        worth_is = worth_is;
+        path_is = path_is;
+        absent = (λ h. worth_is ∙ absent.0 (subst IsNone path_is (none.0 h)), λ zero. none.1 (subst IsNone (sym path_is) (absent.1 (sym worth_is ∙ zero))));
+        has_worth = IfSome-numbers_of Attains path
+            (subst (λ (o : Option (List ℕ)). IfSome o Attains) (sym path_is)
+            (subst (λ (w : ℕ). IfSome (first_best t) (λ p. worth_at t p ≡ Some w)) (sym worth_is) (first_best-worth ranked s)));
+      }

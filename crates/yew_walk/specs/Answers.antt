@@ -1,5 +1,5 @@
 -- What the answers of a search say of its tree.
-use Rattle.std.specs.Prelude.{◌≡◌, ℕ, ◌≤◌, ◌↔◌, Option, IsSome, IfSome, IsSomeAnd}
+use Rattle.std.specs.Prelude.{◌≡◌, ℕ, ◌≤◌, ◌↔◌, Option, Some, IsSome, IsNone, IfSome, IsSomeAnd}
 use Rattle.yew_kinds.specs.declared.kind.Answer.{Answer}
 use Rattle.yew_kinds.specs.declared.kind.Answer.TheVariants.{Count, Best, Reach}
 use Rattle.yew_kinds.specs.Wrappers.{clipped_tree}
@@ -8,10 +8,12 @@ use Rattle.yew_laws.specs.PathValue.{PathValue}
 use Rattle.yew_laws.specs.SearchTree.{SearchTree, worth_at}
 use Rattle.yew_walk.specs.Hands.{numbers_of}
 
--- the greatest worth, and the first path in preorder that has it
+-- the greatest worth, and the first path in preorder whose node has it: there is none exactly where that worth is 0
 pub record IsBest {N : Type 0} (t : SearchTree N) (worth : ℕ) (path : Option PathValue) : Type 0 where
   pub worth_is : worth ≡ greatest t
   pub path_is : numbers_of path ≡ first_best t
+  pub absent : IsNone path ↔ (worth ≡ 0)
+  pub has_worth : IfSome path (λ p. worth_at t p.numbers ≡ Some worth)
 
 -- the first path in preorder whose node has at least the target as its worth: there is one exactly where some node has
 pub record IsReached {N : Type 0} (t : SearchTree N) (target : ℕ) (path : Option PathValue) : Type 0 where
