@@ -1,0 +1,6 @@
+pub mod Causes
+pub mod KnapsackFiles
+pub mod Named
+pub mod Plains
+pub mod Serving
+pub mod Writing

@@ -1,0 +1,5 @@
+pub mod Knapsacks
+pub mod Outcomes
+pub mod Reasons
+pub mod Refusals
+pub mod Runs

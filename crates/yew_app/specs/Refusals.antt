@@ -1,0 +1,59 @@
+-- Why a run does not answer: the statuses, and the lines that say so.
+use Rattle.std.specs.Prelude.{ℕ, List, [], ◌∷◌, ◌++◌, decimal, codes}
+use Rattle.yew_words.specs.declared.plan.UsageKind.{UsageKind}
+use Rattle.yew_words.specs.declared.plan.UsageKind.TheVariants as usage
+use Rattle.yew_text.specs.declared.text.TextKind.{TextKind}
+use Rattle.yew_text.specs.declared.text.TextKind.TheVariants as text
+
+-- why a run did not answer; names of files as their bytes
+pub data Reason : Type 0 where
+  BadUsage : (place : ℕ) (kind : UsageKind) → Reason
+  NotBuilt : Reason
+  CannotRead : (name : List ℕ) → Reason
+  NotInGrammar : (name : List ℕ) (at : ℕ) (kind : TextKind) → Reason
+  TooLong : (name : List ℕ) → Reason
+  TooLarge : (name : List ℕ) (number limit : ℕ) → Reason
+  CannotWrite : Reason
+  NoMemory : Reason
+
+abbrev pub usage_words : UsageKind → List ℕ
+usage_words usage.Missing = codes "missing"
+usage_words usage.Unknown = codes "unknown"
+usage_words usage.NotFile = codes "not a file name"
+usage_words usage.Repeated = codes "repeated"
+usage_words usage.NotNumber = codes "not a number"
+usage_words usage.OutOfRange = codes "out of range"
+usage_words usage.NotHere = codes "not here"
+
+abbrev pub text_words : TextKind → List ℕ
+text_words text.NotNumber = codes "not a number"
+text_words text.TooBig = codes "number too big"
+text_words text.EndsEarly = codes "ends early"
+text_words text.Surplus = codes "surplus"
+text_words text.BadLine = codes "bad line"
+
+-- the pieces one after another, and a line feed
+abbrev pub line_of : List (List ℕ) → List ℕ
+line_of [] = codes "\n"
+line_of (piece ∷ pieces) = piece ++ line_of pieces
+
+-- the line that is written to the sink of faults
+abbrev pub fault_line : Reason → List ℕ
+fault_line (BadUsage place kind) = line_of (codes "yew: " ∷ codes "word " ∷ decimal place ∷ codes ": " ∷ usage_words kind ∷ [])
+fault_line NotBuilt = line_of (codes "yew: " ∷ codes "not built" ∷ [])
+fault_line (CannotRead name) = line_of (codes "yew: " ∷ name ∷ codes ": read fault" ∷ [])
+fault_line (NotInGrammar name at kind) = line_of (codes "yew: " ∷ name ∷ codes ": line " ∷ decimal at ∷ codes ": " ∷ text_words kind ∷ [])
+fault_line (TooLong name) = line_of (codes "yew: " ∷ name ∷ codes ": longer than 16777216 bytes" ∷ [])
+fault_line (TooLarge name number limit) = line_of (codes "yew: " ∷ name ∷ codes ": " ∷ decimal number ∷ codes " is past " ∷ decimal limit ∷ [])
+fault_line CannotWrite = line_of (codes "yew: " ∷ codes "write fault" ∷ [])
+fault_line NoMemory = line_of (codes "yew: " ∷ codes "out of memory" ∷ [])
+
+abbrev pub status_of : Reason → ℕ
+status_of (BadUsage place kind) = 1
+status_of NotBuilt = 1
+status_of (CannotRead name) = 2
+status_of (NotInGrammar name at kind) = 3
+status_of (TooLong name) = 4
+status_of (TooLarge name number limit) = 4
+status_of CannotWrite = 5
+status_of NoMemory = 6

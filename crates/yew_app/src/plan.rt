@@ -1,0 +1,60 @@
+//! The plan of the words, where one worker can do it and its parts are there.
+
+ghost use Rattle.std.specs.Prelude.{◌≡◌, ◌↔◌, ◌∷◌, [], IsTrue, IfOk, IfErr, IsErrAnd};
+ghost use Rattle.yew_words.specs.Word.{texts};
+ghost use Rattle.yew_words.specs.Plans.{Planned, planned, PlanOf};
+ghost use Rattle.yew_words.specs.Ranges.{IsWithin};
+ghost use Rattle.yew_app.specs.Reasons.{reason_of};
+ghost use Rattle.yew_app.specs.Refusals.{Reason};
+ghost use Rattle.yew_app.specs.Runs.{IsBuilt, IsPlain, RefusesWords};
+
+use crate::refusal::Refusal;
+use yew_words::{Job, Plan, Skeleton, Usage, UsageKind, read_words};
+
+/// Whether the parts that the plan asks for are there.
+fn is_built(plan: &Plan) -> bool
+    ensures { IsTrue result ↔ IsBuilt (planned plan.now) }
+{
+    match plan.job {
+        Job::Knapsack => !plan.report && !plan.audit,
+        Job::Tsp | Job::Subgraph | Job::Semigroups | Job::Make(_) => false,
+    }
+}
+
+/// The plan of the words, or what is wrong with them. A plan with another skeleton than `sequential` is refused at its
+/// second word.
+pub(crate) fn read_plain<'a>(words: &'a [String]) -> Result<Plan<'a>, Refusal<'a>>
+    ensures plain { IfOk result (λ plan. IsPlain (texts words.now) (planned plan)) }
+    ensures within { IfOk result (λ plan. IsWithin (planned plan)) }
+    ensures one_plan { IfOk result (λ plan. (other : Planned) → PlanOf (texts words.now) other → planned plan ≡ other) }
+    ensures no_plan { IfErr result (λ refusal. (other : Planned) → ¬ IsPlain (texts words.now) other) }
+    ensures refused { IfErr result (λ refusal. RefusesWords (texts words.now) (reason_of refusal)) }
+    ensures each_reason { (reason : Reason) → RefusesWords (texts words.now) reason → IsErrAnd result (λ refusal. reason_of refusal ≡ reason) }
+{
+    let plan = match read_words(words) {
+        Ok(plan) => plan,
+        Err(usage) => return Err(Refusal::Usage(usage)),
+    };
+    match plan.skeleton {
+        Skeleton::Sequential => {}
+        _ => {
+            return Err(Refusal::Usage(Usage {
+                place: 2,
+                kind: UsageKind::NotHere,
+            }));
+        }
+    }
+    if !is_built(&plan) {
+        return Err(Refusal::NotBuilt);
+    }
+    Ok(plan)
+}
+
+/// The name of the only file of a plan for a knapsack.
+pub(crate) fn only_file<'a>(plan: &Plan<'a>) -> &'a str
+    requires built { IsBuilt (planned plan.now) }
+    requires within { IsWithin (planned plan.now) }
+    ensures { texts plan.now.files.now ≡ result.now ∷ [] }
+{
+    plan.files[0].as_str()
+}
