@@ -1,4 +1,5 @@
 pub mod Causes
+pub mod Found
 pub mod KnapsackFiles
 pub mod Named
 pub mod Plains
