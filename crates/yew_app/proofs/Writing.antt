@@ -13,8 +13,7 @@ prefix_more before mid now bytes piece behind first next =
     let count = next.0 in
     let within : count ≤ length piece = next.1 in
     let front : take (length bytes + count) (bytes ++ (piece ++ behind)) ≡ bytes ++ take count (piece ++ behind) = take-append-add bytes (piece ++ behind) count in
-    let same : take count (piece ++ behind) ≡ take count piece = take-append-le count piece behind within in
-    (
+    let same : take count (piece ++ behind) ≡ take count piece = take-append-le count piece behind within in (
       length bytes + count,
       omega (arith, length-append bytes (piece ++ behind), length-append piece behind),
       subst (λ (text : List ℕ). Appends before text now) (sym (front ∙ ap (λ (t : List ℕ). bytes ++ t) same))

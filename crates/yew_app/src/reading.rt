@@ -19,7 +19,11 @@ use yew_text::FileEnd;
 const MOST_BYTES: u64 = 1 << 24;
 
 /// The problem of the knapsack file of that name.
-pub(crate) fn read_knapsack<'a, S: Shelf<'a>>(alloc: Global, shelf: &mut S, name: &'a str) -> Result<Knapsack, Refusal<'a>>
+pub(crate) fn read_knapsack<'a, S: Shelf<'a>>(
+    alloc: Global,
+    shelf: &mut S,
+    name: &'a str,
+) -> Result<Knapsack, Refusal<'a>>
     ensures read { IfOk result (λ problem. IfSome (S.files shelf.old) (λ told. IsRead told name.now problem)) }
     ensures within { IfOk result (λ problem. IsWithinLimits problem) }
     ensures root { IfOk result (λ problem. IsNode problem (root_of problem)) }

@@ -108,23 +108,67 @@ fn pieces_of<'a>(refusal: Refusal<'a>) -> [Piece<'a>; 7]
         }
         Refusal::NotBuilt => [start, Piece::Text("not built"), end, none, none, none, none],
         Refusal::ReadFault(name) => {
-            [start, Piece::Name(name), Piece::Text(": read fault"), end, none, none, none]
+            [
+                start,
+                Piece::Name(name),
+                Piece::Text(": read fault"),
+                end,
+                none,
+                none,
+                none,
+            ]
         }
         Refusal::NotInGrammar(name, fault) => {
             let line = Piece::Number(fault.line);
             let kind = Piece::Text(fault_text(fault.kind));
-            [start, Piece::Name(name), Piece::Text(": line "), line, colon, kind, end]
+            [
+                start,
+                Piece::Name(name),
+                Piece::Text(": line "),
+                line,
+                colon,
+                kind,
+                end,
+            ]
         }
         Refusal::TooLong(name) => {
             let past = Piece::Text(": longer than 16777216 bytes");
             [start, Piece::Name(name), past, end, none, none, none]
         }
-        Refusal::TooLarge { name, number, limit } => {
+        Refusal::TooLarge {
+            name,
+            number,
+            limit,
+        } => {
             let past = Piece::Text(" is past ");
-            [start, Piece::Name(name), colon, Piece::Number(number), past, Piece::Number(limit), end]
+            [
+                start,
+                Piece::Name(name),
+                colon,
+                Piece::Number(number),
+                past,
+                Piece::Number(limit),
+                end,
+            ]
         }
-        Refusal::WriteFault => [start, Piece::Text("write fault"), end, none, none, none, none],
-        Refusal::Memory => [start, Piece::Text("out of memory"), end, none, none, none, none],
+        Refusal::WriteFault => [
+            start,
+            Piece::Text("write fault"),
+            end,
+            none,
+            none,
+            none,
+            none,
+        ],
+        Refusal::Memory => [
+            start,
+            Piece::Text("out of memory"),
+            end,
+            none,
+            none,
+            none,
+            none,
+        ],
     }
 }
 

@@ -17,7 +17,11 @@ use std::alloc::Global;
 use yew_io::{Failed, Shelf, Sink, write_whole};
 
 /// The whole text that the words ask for, or why there is none.
-fn text_of<'a, S: Shelf<'a>>(alloc: Global, words: &'a [String], shelf: &mut S) -> Result<Vec<u8>, Refusal<'a>>
+fn text_of<'a, S: Shelf<'a>>(
+    alloc: Global,
+    words: &'a [String],
+    shelf: &mut S,
+) -> Result<Vec<u8>, Refusal<'a>>
     ensures answers { IfOk result (λ text. Answers (texts words.now) (S.files shelf.old) text.items) }
     ensures cause { IfErr result (λ refusal. IsCause (texts words.now) (S.files shelf.old) (reason_of refusal)) }
     ensures read_fault { (name : List ℕ) → IsErrAnd result (λ refusal. reason_of refusal ≡ CannotRead name) →

@@ -38,5 +38,5 @@ returns c =
     let reached : IsReached t (least + 1) c.in-Reach.path = rw c.in-Reach.is at c.in-Ok.ensures in
     let meets = IfSome-here (λ p. IsSomeAnd (worth_at t p.numbers) (λ worth. least + 1 ≤ worth)) c.in-Reach.path c.in-Some.path c.in-Some.is reached.meets in
     let worth : least + 1 ≤ worth_of instance c.in-Ok-node_at.node =
-        rebuilt-worth t (knapsack-ranked instance) c.requires.root (λ w. least + 1 ≤ w) c.in-Some.path.numbers c.in-Ok-node_at.node meets c.in-Ok-node_at.ensures in
+    rebuilt-worth t (knapsack-ranked instance) c.requires.root (λ w. least + 1 ≤ w) c.in-Some.path.numbers c.in-Ok-node_at.node meets c.in-Ok-node_at.ensures in
     weaker c.reach_text-2.result _ (λ text. IsRightText instance (Some least) text.items) (λ text right. right least worth) c.reach_text-2.ensures.right

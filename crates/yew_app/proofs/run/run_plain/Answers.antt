@@ -16,15 +16,18 @@ returns-in-Ok-write_whole-clause-files_refused g c = λ no_fault.
     (λ told none reason refused. absurd (none reason refused)) (c.in-Ok.ensures.files_refused no_fault)
 
 pub returns-in-Ok-clause-refused : goal.returns-in-Ok-clause-refused
-returns-in-Ok-clause-refused g c = λ not_zero. (CannotWrite, record {
-  says = record { status_is = c.refuse.ensures.status; prefix = c.refuse.ensures.prefix; whole = c.refuse.ensures.whole };
-  cause = record {
-    text = c.in-Ok.text.items;
-    answers = c.in-Ok.ensures.answers;
-    prefix = rw c.deref.ensures.value at c.in-Err-write_whole.ensures.prefix;
-    rose = c.in-Err-write_whole.ensures.cause;
-  };
-})
+returns-in-Ok-clause-refused g c = λ not_zero. (
+  CannotWrite,
+  record {
+    says = record { status_is = c.refuse.ensures.status; prefix = c.refuse.ensures.prefix; whole = c.refuse.ensures.whole };
+    cause = record {
+      text = c.in-Ok.text.items;
+      answers = c.in-Ok.ensures.answers;
+      prefix = rw c.deref.ensures.value at c.in-Err-write_whole.ensures.prefix;
+      rose = c.in-Err-write_whole.ensures.cause;
+    };
+  },
+)
 
 pub returns-in-Ok-clause-files_refused : goal.returns-in-Ok-clause-files_refused
 returns-in-Ok-clause-files_refused g c = λ no_fault.
@@ -43,17 +46,20 @@ returns-clause-files_refused g c = λ no_fault.
     (λ told. (reason : Reason) → RefusesFiles (texts c.args.words.now) told reason → (reason_is ≡ reason) ⊎ (reason_is ≡ NoMemory))
     (λ told. (reason : Reason) → RefusesFiles (texts c.args.words.now) told reason → Says before after status reason ⊎ (status ≡ 6))
     (λ told each reason refused. ⊎_elim
-      (λ same. inl (subst (Says before after status) same says))
-      (λ none. inr (says.status_is ∙ ap status_of none))
-      (each reason refused))
+    (λ same. inl (subst (Says before after status) same says))
+    (λ none. inr (says.status_is ∙ ap status_of none))
+    (each reason refused))
     (c.in-Err.ensures.files_refused no_fault)
 
 pub returns-clause-refused : goal.returns-clause-refused
-returns-clause-refused g c = λ not_zero. (reason_of c.in-Err.refusal, record {
-  says = record { status_is = c.refuse-in-Err.ensures.status; prefix = c.refuse-in-Err.ensures.prefix; whole = c.refuse-in-Err.ensures.whole };
-  cause =
-      has-cause (texts c.args.words.now)
-      (outside g.S.Shelf g.K.Sink g.E.Sink c.args.shelf.now c.args.out.now c.args.err.now)
-      (outside g.S.Shelf g.K.Sink g.E.Sink c.text_of.new.shelf c.args.out.now c.refuse-in-Err.new.sink)
-      (reason_of c.in-Err.refusal) c.in-Err.ensures.cause c.in-Err.ensures.read_fault refl;
-})
+returns-clause-refused g c = λ not_zero. (
+  reason_of c.in-Err.refusal,
+  record {
+    says = record { status_is = c.refuse-in-Err.ensures.status; prefix = c.refuse-in-Err.ensures.prefix; whole = c.refuse-in-Err.ensures.whole };
+    cause =
+        has-cause (texts c.args.words.now)
+        (outside g.S.Shelf g.K.Sink g.E.Sink c.args.shelf.now c.args.out.now c.args.err.now)
+        (outside g.S.Shelf g.K.Sink g.E.Sink c.text_of.new.shelf c.args.out.now c.refuse-in-Err.new.sink)
+        (reason_of c.in-Err.refusal) c.in-Err.ensures.cause c.in-Err.ensures.read_fault refl;
+  },
+)

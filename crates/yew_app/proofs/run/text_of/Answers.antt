@@ -30,7 +30,7 @@ returns-in-Err-read_knapsack-clause-files_refused g c = λ no_fault.
     (λ told. (reason : Reason) → knapsacks.IsRefused told name reason → (reason_is ≡ reason) ⊎ (reason_is ≡ NoMemory))
     (λ told. (reason : Reason) → RefusesFiles (texts c.args.words.now) told reason → (reason_is ≡ reason) ⊎ (reason_is ≡ NoMemory))
     (λ told each reason refused. each reason
-      (refused-file (texts c.args.words.now) (planned c.in-Ok.plan) name c.in-Ok.ensures.plain c.in-Ok.ensures.one_plan c.only_file-name.ensures told reason refused))
+    (refused-file (texts c.args.words.now) (planned c.in-Ok.plan) name c.in-Ok.ensures.plain c.in-Ok.ensures.one_plan c.only_file-name.ensures told reason refused))
     (c.in-Err-read_knapsack.ensures.each_reason no_fault)
 
 pub returns-in-Err-read_knapsack-clause-fine : goal.returns-in-Err-read_knapsack-clause-fine
@@ -41,7 +41,7 @@ returns-in-Err-read_knapsack-clause-fine g c = λ no_fault.
     (λ told. knapsacks.IsFine told name → (false ≡ true) ⊎ (reason_is ≡ NoMemory))
     (λ told. IsFine (texts c.args.words.now) told → (false ≡ true) ⊎ (reason_is ≡ NoMemory))
     (λ told each fine. each
-      (fine-file (texts c.args.words.now) (planned c.in-Ok.plan) name c.in-Ok.ensures.plain c.in-Ok.ensures.one_plan c.only_file-name.ensures told fine))
+    (fine-file (texts c.args.words.now) (planned c.in-Ok.plan) name c.in-Ok.ensures.plain c.in-Ok.ensures.one_plan c.only_file-name.ensures told fine))
     (c.in-Err-read_knapsack.ensures.fine no_fault)
 
 pub returns-in-Ok-knapsack_text-clause-answers : goal.returns-in-Ok-knapsack_text-clause-answers
@@ -56,5 +56,5 @@ returns-in-Ok-knapsack_text-clause-files_refused g c = λ no_fault.
     (λ told. (reason : Reason) → knapsacks.IsRefused told name reason → ⊥)
     (λ told. (reason : Reason) → RefusesFiles (texts c.args.words.now) told reason → ⊥)
     (λ told each reason refused. each reason
-      (refused-file (texts c.args.words.now) (planned c.in-Ok.plan) name c.in-Ok.ensures.plain c.in-Ok.ensures.one_plan c.only_file-name.ensures told reason refused))
+    (refused-file (texts c.args.words.now) (planned c.in-Ok.plan) name c.in-Ok.ensures.plain c.in-Ok.ensures.one_plan c.only_file-name.ensures told reason refused))
     (c.in-Ok-read_knapsack.ensures.each_reason no_fault)
