@@ -16,13 +16,16 @@ struct Ended {
     err: Vec<u8>,
 }
 
-/// How the outside behaves: the numbers of the calls that fail, and how many bytes the sink of the answer takes a call.
+/// How the outside behaves: the numbers of the calls that fail, how many bytes the sink of the answer takes a call, and
+/// the rooms of the two sinks.
 #[derive(Clone, Copy)]
 struct Outside<'a> {
     reads: &'a [u64],
     writes: &'a [u64],
     says: &'a [u64],
     most: usize,
+    room: usize,
+    room_to_say: usize,
 }
 
 const CALM: Outside<'static> = Outside {
@@ -30,6 +33,8 @@ const CALM: Outside<'static> = Outside {
     writes: &[],
     says: &[],
     most: 1 << 20,
+    room: 1 << 16,
+    room_to_say: 1 << 12,
 };
 
 fn run(
@@ -50,8 +55,13 @@ fn run(
     }
     let mut shelf = MemoryShelf::new(pairs, outside.reads.to_vec(alloc)?);
     let most = outside.most.max(1);
-    let mut out = MemorySink::new(alloc, 1 << 16, most, outside.writes.to_vec(alloc)?)?;
-    let mut err = MemorySink::new(alloc, 1 << 12, 1 << 12, outside.says.to_vec(alloc)?)?;
+    let mut out = MemorySink::new(alloc, outside.room, most, outside.writes.to_vec(alloc)?)?;
+    let mut err = MemorySink::new(
+        alloc,
+        outside.room_to_say,
+        1 << 12,
+        outside.says.to_vec(alloc)?,
+    )?;
     let status = run_plain(alloc, &list, &mut shelf, &mut out, &mut err);
     Ok(Ended {
         status,
@@ -63,8 +73,9 @@ fn run(
 #[test]
 fn answers_and_refusals(rt: HostRuntime) -> Result<(), Fail> {
     let alloc = rt.alloc();
-    let files: [(&str, &[u8]); 7] = [
+    let files: [(&str, &[u8]); 8] = [
         ("k1", FOUR),
+        ("k4", b"5 10\n10 5\n40 4\n30 6\n50 3\n40 4\n".as_slice()),
         ("k2", b"0 5\n".as_slice()),
         ("k3", b"2 0\n7 3\n5 0\n".as_slice()),
         (
@@ -79,6 +90,7 @@ fn answers_and_refusals(rt: HostRuntime) -> Result<(), Fail> {
         ("knapsack sequential k1", 0, "best 90\nitems 2 4\n", ""),
         ("knapsack sequential k2", 0, "best 0\nitems\n", ""),
         ("knapsack sequential k3", 0, "best 5\nitems 2\n", ""),
+        ("knapsack sequential k4", 0, "best 90\nitems 2 4\n", ""),
         (
             "knapsack sequential k7",
             0,
@@ -255,6 +267,103 @@ fn faults_of_the_outside(rt: HostRuntime) -> Result<(), Fail> {
 }
 
 #[test]
+fn files_that_are_not_in_their_grammar(rt: HostRuntime) -> Result<(), Fail> {
+    let alloc = rt.alloc();
+    for (file, status, out, err) in [
+        (&FOUR[..24], 0, "best 90\nitems 2 4\n", ""),
+        (
+            b"4 10\r\n10 5\r\n40 4\r\n30 6\r\n50 3\r\n".as_slice(),
+            0,
+            "best 90\nitems 2 4\n",
+            "",
+        ),
+        (
+            b"4 10\n\xff 5\n40 4\n30 6\n50 3\n".as_slice(),
+            3,
+            "",
+            "yew: f: line 2: not a number\n",
+        ),
+        (
+            b"18446744073709551616 5\n".as_slice(),
+            3,
+            "",
+            "yew: f: line 1: number too big\n",
+        ),
+        (
+            b"9223372036854775807 5\n".as_slice(),
+            3,
+            "",
+            "yew: f: line 2: ends early\n",
+        ),
+        (
+            b"1 5\n2147483648 1\n".as_slice(),
+            4,
+            "",
+            "yew: f: 2147483648 is past 2147483647\n",
+        ),
+        (
+            b"0 1099511627776\n".as_slice(),
+            4,
+            "",
+            "yew: f: 1099511627776 is past 1099511627775\n",
+        ),
+        (
+            b"1 5\n2147483648 x\n".as_slice(),
+            3,
+            "",
+            "yew: f: line 2: not a number\n",
+        ),
+        (b"001 5 007 0".as_slice(), 0, "best 7\nitems 1\n", ""),
+    ] {
+        let ended = run(alloc, "knapsack sequential f", &[("f", file)], CALM)?;
+        assert_eq!(rt; ended.status, status);
+        assert_eq!(rt; ended.out.as_slice(), out.as_bytes());
+        assert_eq!(rt; ended.err.as_slice(), err.as_bytes());
+    }
+    let mut line = 1u64;
+    for len in 0..24 {
+        let mut wanted = Vec::from_slice(alloc, b"yew: f: line ")?;
+        push_number(&mut wanted, line)?;
+        wanted.extend_from_slice(b": ends early\n")?;
+        let ended = run(alloc, "knapsack sequential f", &[("f", &FOUR[..len])], CALM)?;
+        assert_eq!(rt; ended.status, 3);
+        assert_eq!(rt; ended.err.as_slice(), wanted.as_slice());
+        if FOUR[len] == b'\n' {
+            line = line.wrapping_add(1);
+        }
+    }
+    Ok(())
+}
+
+#[test]
+fn an_answer_that_breaks_off(rt: HostRuntime) -> Result<(), Fail> {
+    let alloc = rt.alloc();
+    let text = b"best 90\nitems 2 4\n".as_slice();
+    for taken in 0..18 {
+        let slow = Outside {
+            most: 1,
+            writes: &[taken as u64 + 1],
+            ..CALM
+        };
+        let ended = run(alloc, "knapsack sequential k1", &[("k1", FOUR)], slow)?;
+        assert_eq!(rt; ended.status, 5);
+        assert_eq!(rt; ended.out.as_slice(), &text[..taken]);
+    }
+    let small = Outside { room: 5, ..CALM };
+    let ended = run(alloc, "knapsack sequential k1", &[("k1", FOUR)], small)?;
+    assert_eq!(rt; ended.status, 5);
+    assert_eq!(rt; ended.out.as_slice(), b"best ".as_slice());
+    let mute = Outside {
+        room_to_say: 0,
+        ..CALM
+    };
+    let ended = run(alloc, "knapsack sequential nofile", &[("k1", FOUR)], mute)?;
+    assert_eq!(rt; ended.status, 2);
+    assert_eq!(rt; ended.err.len(), 0);
+    Ok(())
+}
+
+#[test]
 fn limits(rt: HostRuntime) -> Result<(), Fail> {
     let alloc = rt.alloc();
     let mut greatest = Vec::from_slice(alloc, b"256 256\n")?;
@@ -290,7 +399,7 @@ fn limits(rt: HostRuntime) -> Result<(), Fail> {
 /// The best profit, over all sets of items.
 fn slow_best(items: &[(u64, u64)], capacity: u64) -> u64 {
     let mut best = 0u64;
-    for set in 0..1u32 << 8 {
+    for set in 0..1u32 << 12 {
         let mut rest = set;
         let mut profit = 0u64;
         let mut weight = 0u64;
@@ -314,15 +423,15 @@ fn the_best_of_all_sets(rt: HostRuntime) -> Result<(), Fail> {
     let mut draw = 12345u64;
     for round in 0..40u64 {
         let mut items = Vec::new(alloc);
-        for _item in 0..8 {
+        for _item in 0..12 {
             draw = draw
                 .wrapping_mul(6364136223846793005)
                 .wrapping_add(1442695040888963407);
             items.push(((draw >> 33) % 30, (draw >> 48) % 12))?;
         }
-        let capacity = round;
+        let capacity = round * 2;
         let mut file = Vec::new(alloc);
-        push_number(&mut file, 8)?;
+        push_number(&mut file, 12)?;
         push_spaced(&mut file, capacity)?;
         push_line_end(&mut file)?;
         for (profit, weight) in &items {
