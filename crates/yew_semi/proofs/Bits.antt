@@ -14,8 +14,8 @@ pub bit_cases : {P : Type 0} (w x : ℕ) → (bit_at w x ≡ 0 → P) → (bit_a
 bit_cases {P} w x f g =
     let small = bit_at-lt w x in
     elim (bit_at w x == 1) as (λ b. (bit_at w x == 1) ≡ b → P)
-      [ true ↦ λ e. g (grind (arith, nat_tests)) | false ↦ λ e. let other : bit_at w x ≢ 1 = grind (arith, nat_tests) in f (omega arith) ]
-      refl
+    [ true ↦ λ e. g (grind (arith, nat_tests)) | false ↦ λ e. let other : bit_at w x ≢ 1 = grind (arith, nat_tests) in f (omega arith) ]
+    refl
 
 -- two tests that agree keep the same
 pub filter-agree : (p q : ℕ → Bool) (low n : ℕ) → ((x : ℕ) → low ≤ x → x < low + n → p x ≡ q x) → filter p (range_with_len low n) ≡ filter q (range_with_len low n)

@@ -38,7 +38,7 @@ occurs-cons : (y : ℕ) (ys : List ℕ) (x : ℕ) (ls : List (List ℕ)) → occ
 occurs-cons y ys x ls =
     sum_by-map (only (y ∷ ys)) (λ l. x ∷ l) ls
     ∙ elim (y == x) as (λ b. sum_by (λ l. cond (b && is_path ys l) 1 0) ls ≡ cond b (occurs ys ls) 0)
-      [ true ↦ refl | false ↦ sum_by-zero (λ (l : List ℕ). cond false 1 0) (λ l. refl) ls ]
+    [ true ↦ refl | false ↦ sum_by-zero (λ (l : List ℕ). cond false 1 0) (λ l. refl) ls ]
 
 occurs-none : (x : ℕ) (ls : List (List ℕ)) → occurs [] (map (λ l. x ∷ l) ls) ≡ 0
 occurs-none x ls = sum_by-map (only []) (λ l. x ∷ l) ls ∙ sum_by-zero (λ (l : List ℕ). only [] (x ∷ l)) (λ l. refl) ls

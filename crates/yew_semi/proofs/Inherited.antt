@@ -15,18 +15,18 @@ module _ (xs : List ℕ) (g : ℕ) (minimal : IsMinimal xs g) where
   -- a greater generator stays one
   pub minimal-kept : (x : ℕ) → g < x → IsMinimal xs x → IsMinimal (without xs g) x
   minimal-kept x less known = record {
-        positive = known.positive;
-        above = λ y inside. elim (snoc-cases xs g y inside) [ inl same ↦ omega arith | inr old ↦ known.above y old ];
-        no_sum = λ a from below one other. known.no_sum a from below (snoc-outside xs g a one).1 (snoc-outside xs g (x - a) other).1;
-      }
+    positive = known.positive;
+    above = λ y inside. elim (snoc-cases xs g y inside) [ inl same ↦ omega arith | inr old ↦ known.above y old ];
+    no_sum = λ a from below one other. known.no_sum a from below (snoc-outside xs g a one).1 (snoc-outside xs g (x - a) other).1;
+  }
 
   -- numbers above the one taken out are members
   above-member : (x : ℕ) → g < x → contains (without xs g) x ≡ false
   above-member x less =
       snoc-kept xs g x (omega arith)
       ∙ elim (contains xs x) as (λ b. contains xs x ≡ b → b ≡ false)
-        [ true ↦ λ e. let small = minimal.above x e in absurd (omega arith) | false ↦ λ e. refl ]
-        refl
+      [ true ↦ λ e. let small = minimal.above x e in absurd (omega arith) | false ↦ λ e. refl ]
+      refl
 
   -- a new generator is the sum of the one taken out and a member
   pub record IsNew (x : ℕ) : Type 0 where
@@ -114,43 +114,43 @@ module _ (xs : List ℕ) (g : ℕ) (minimal : IsMinimal xs g) where
     twice-minimal same =
         let positive = minimal.positive in
         let below : (a : ℕ) → 0 < a → a ≤ g → contains (without xs g) a ≡ true =
-              λ a from most.
-              elim (a == g) as (λ b. (a == g) ≡ b → contains (without xs g) a ≡ true) [
-                | true ↦ λ e. let it : a ≡ g = grind (arith, nat_tests) in ap (contains (without xs g)) it ∙ snoc-new xs g
-                | false ↦ λ e. let it : a ≢ g = grind (arith, nat_tests) in snoc-old xs g a (least.least a from (omega arith))
-              ]
-              refl
+        λ a from most.
+        elim (a == g) as (λ b. (a == g) ≡ b → contains (without xs g) a ≡ true) [
+          | true ↦ λ e. let it : a ≡ g = grind (arith, nat_tests) in ap (contains (without xs g)) it ∙ snoc-new xs g
+          | false ↦ λ e. let it : a ≢ g = grind (arith, nat_tests) in snoc-old xs g a (least.least a from (omega arith))
+        ]
+        refl
         in
         record {
           positive = omega arith;
           above = λ y inside. elim (snoc-cases xs g y inside) [ inl it ↦ omega arith | inr old ↦ let less = minimal.above y old in omega arith ];
           no_sum = λ a from most one other.
-                elim (nat_lt g a) as (λ b. nat_lt g a ≡ b → ⊥) [
-                  | true ↦ λ e. let less : g < a = grind (arith, nat_tests) in let inside = below (2 * g - a) (omega arith) (omega arith) in absurd (cc)
-                  | false ↦ λ e. let less : a ≤ g = grind (arith, nat_tests) in let inside = below a from less in absurd (cc)
-                ]
-                refl;
+              elim (nat_lt g a) as (λ b. nat_lt g a ≡ b → ⊥) [
+                | true ↦ λ e. let less : g < a = grind (arith, nat_tests) in let inside = below (2 * g - a) (omega arith) (omega arith) in absurd (cc)
+                | false ↦ λ e. let less : a ≤ g = grind (arith, nat_tests) in let inside = below a from less in absurd (cc)
+              ]
+              refl;
         }
 
     -- the least member of the semigroup without the generator
     pub least-kept : g ≢ m → IsLeastMember (without xs g) m
     least-kept other = record {
-          positive = least.positive;
-          member = let not_m : m ≢ g = λ same. other (sym same) in snoc-kept xs g m not_m ∙ least.member;
-          least = λ x from below. snoc-old xs g x (least.least x from below);
-        }
+      positive = least.positive;
+      member = let not_m : m ≢ g = λ same. other (sym same) in snoc-kept xs g m not_m ∙ least.member;
+      least = λ x from below. snoc-old xs g x (least.least x from below);
+    }
 
     pub least-next : g ≡ m → IsLeastMember (without xs g) (g + 1)
     least-next same = record {
-          positive = omega arith;
-          member = above-member (g + 1) (omega arith);
-          least = λ x from below.
-                elim (x == g) as (λ b. (x == g) ≡ b → contains (without xs g) x ≡ true) [
-                  | true ↦ λ e. let it : x ≡ g = grind (arith, nat_tests) in ap (contains (without xs g)) it ∙ snoc-new xs g
-                  | false ↦ λ e. let it : x ≢ g = grind (arith, nat_tests) in snoc-old xs g x (least.least x from (omega arith))
-                ]
-                refl;
-        }
+      positive = omega arith;
+      member = above-member (g + 1) (omega arith);
+      least = λ x from below.
+          elim (x == g) as (λ b. (x == g) ≡ b → contains (without xs g) x ≡ true) [
+            | true ↦ λ e. let it : x ≡ g = grind (arith, nat_tests) in ap (contains (without xs g)) it ∙ snoc-new xs g
+            | false ↦ λ e. let it : x ≢ g = grind (arith, nat_tests) in snoc-old xs g x (least.least x from (omega arith))
+          ]
+          refl;
+    }
 
 -- the least member is at most one more than the number of gaps
 pub least-bound : (xs : List ℕ) (m : ℕ) → IsLeastMember xs m → m ≤ length xs + 1
@@ -191,10 +191,10 @@ inherited-kept xs g m greater minimal least other given semigroup =
       fits = given.fits;
       each = λ x within bit. let known = given.each x within bit in test-from_minimal (without xs g) x (minimal-kept xs g minimal x known.0 (minimal-from_test xs x known.1));
       others = λ x within away test.
-            let known = minimal-from_test (without xs g) x test in
-            test_cases (is_generator xs x)
-            (λ e. given.others x within (known.above g (snoc-new xs g)) e)
-            (λ e. absurd (away (new-least xs g minimal m least other x known e)));
+          let known = minimal-from_test (without xs g) x test in
+          test_cases (is_generator xs x)
+          (λ e. given.others x within (known.above g (snoc-new xs g)) e)
+          (λ e. absurd (away (new-least xs g minimal m least other x known e)));
       above = above-without xs g m minimal positive;
       positive = omega arith;
       small = omega arith;
@@ -202,7 +202,7 @@ inherited-kept xs g m greater minimal least other given semigroup =
 
 -- and where it is taken out
 pub inherited-next : (xs : List ℕ) (g m greater word : ℕ) → IsMinimal xs g → IsLeastMember xs m → g ≡ m → AreGreater xs g greater → IsSemigroup 40 (without xs g) →
-  word < 2 ^ 128 → bit_at word (2 * g) ≡ 1 → ((x : ℕ) → x ≢ 2 * g → bit_at word x ≡ bit_at greater x) → AreInherited (without xs g) word (g + (g + 1))
+    word < 2 ^ 128 → bit_at word (2 * g) ≡ 1 → ((x : ℕ) → x ≢ 2 * g → bit_at word x ≡ bit_at greater x) → AreInherited (without xs g) word (g + (g + 1))
 inherited-next xs g m greater word minimal least same given semigroup fits new old =
     let small = small-from xs g (g + 1) semigroup (least-next xs g minimal m least same) in
     let gap = small.gap in
@@ -211,19 +211,19 @@ inherited-next xs g m greater word minimal least same given semigroup fits new o
     record {
       fits = fits;
       each = λ x within bit.
-            test_cases (x == 2 * g)
-            (λ e. let it : 2 * g ≡ x = grind (arith, nat_tests) in subst (λ y. is_generator (without xs g) y ≡ true) it (test-from_minimal (without xs g) (2 * g) (twice-minimal xs g minimal m least same)))
-            (λ e. let it : x ≢ 2 * g = grind (arith, nat_tests) in
-              let known = given.each x within (sym (old x it) ∙ bit) in
-              test-from_minimal (without xs g) x (minimal-kept xs g minimal x known.0 (minimal-from_test xs x known.1)));
+          test_cases (x == 2 * g)
+          (λ e. let it : 2 * g ≡ x = grind (arith, nat_tests) in subst (λ y. is_generator (without xs g) y ≡ true) it (test-from_minimal (without xs g) (2 * g) (twice-minimal xs g minimal m least same)))
+          (λ e. let it : x ≢ 2 * g = grind (arith, nat_tests) in
+          let known = given.each x within (sym (old x it) ∙ bit) in
+          test-from_minimal (without xs g) x (minimal-kept xs g minimal x known.0 (minimal-from_test xs x known.1)));
       others = λ x within away test.
-            let known = minimal-from_test (without xs g) x test in
-            test_cases (x == 2 * g)
-            (λ e. let it : x ≡ 2 * g = grind (arith, nat_tests) in ap (bit_at word) it ∙ new)
-            (λ e. let it : x ≢ 2 * g = grind (arith, nat_tests) in
-              test_cases (is_generator xs x)
-              (λ f. old x it ∙ given.others x within (known.above g (snoc-new xs g)) f)
-              (λ f. absurd (it (new-ordinary xs g minimal m least same x known f away))));
+          let known = minimal-from_test (without xs g) x test in
+          test_cases (x == 2 * g)
+          (λ e. let it : x ≡ 2 * g = grind (arith, nat_tests) in ap (bit_at word) it ∙ new)
+          (λ e. let it : x ≢ 2 * g = grind (arith, nat_tests) in
+          test_cases (is_generator xs x)
+          (λ f. old x it ∙ given.others x within (known.above g (snoc-new xs g)) f)
+          (λ f. absurd (it (new-ordinary xs g minimal m least same x known f away))));
       above = above-without xs g (g + 1) minimal (omega arith);
       positive = omega arith;
       small = omega arith;

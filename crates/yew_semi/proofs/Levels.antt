@@ -85,7 +85,7 @@ module _ {N : Type 0} {sound : N → Type 0} {children : N → List N} {rank : N
   nodes_at-tree (suc k) n s =
       ap (nodes_at (suc k)) (tree-unfolds ranked n s)
       ∙ (let other : (0 == suc k) ≡ false = grind (arith, nat_tests) in
-        ap (λ b. map (λ (x : Member N). x.node) (cond b (root_member n ∷ filter (λ x. length x.path == suc k) (forest (tree children rank) 0 (children n))) (filter (λ x. length x.path == suc k) (forest (tree children rank) 0 (children n))))) other)
+      ap (λ b. map (λ (x : Member N). x.node) (cond b (root_member n ∷ filter (λ x. length x.path == suc k) (forest (tree children rank) 0 (children n))) (filter (λ x. length x.path == suc k) (forest (tree children rank) 0 (children n))))) other)
       ∙ forest-deeper (tree children rank) (level children k) sound k (nodes_at-tree k) 0 (children n) (ranked.stays_sound n s)
 
   -- the nodes of a level are sound

@@ -85,8 +85,8 @@ same_one g h = one_if (g == h)
 occurs-range : (p : ℕ → Bool) (g low n : ℕ) → sum_by (same_one g) (filter p (range_with_len low n)) ≡ one_if (p g && (nat_le low g && nat_lt g (low + n)))
 occurs-range p g low zero =
     let none : (nat_le low g && nat_lt g (low + 0)) ≡ false = bool_same (nat_le low g && nat_lt g (low + 0)) false
-          (λ e. let a = both_first (nat_le low g) (nat_lt g (low + 0)) e in let b = both_second (nat_le low g) (nat_lt g (low + 0)) e in let a' : low ≤ g = grind (arith, nat_tests) in let b' = lt_is g (low + 0) b in absurd (omega arith))
-          (λ e. absurd (cc)) in
+    (λ e. let a = both_first (nat_le low g) (nat_lt g (low + 0)) e in let b = both_second (nat_le low g) (nat_lt g (low + 0)) e in let a' : low ≤ g = grind (arith, nat_tests) in let b' = lt_is g (low + 0) b in absurd (omega arith))
+    (λ e. absurd (cc)) in
     sym (ap (λ b. one_if (p g && b)) none ∙ ap one_if (and_none (p g)))
 occurs-range p g low (suc n) =
     let rest = occurs-range p g (low + 1) n in
@@ -94,8 +94,8 @@ occurs-range p g low (suc n) =
       | true ↦ λ is.
           let same : low ≡ g = grind (arith, nat_tests) in
           let none : (nat_le (low + 1) g && nat_lt g (low + 1 + n)) ≡ false = bool_same (nat_le (low + 1) g && nat_lt g (low + 1 + n)) false
-                (λ e. let a = both_first (nat_le (low + 1) g) (nat_lt g (low + 1 + n)) e in let a' : low + 1 ≤ g = grind (arith, nat_tests) in absurd (omega arith))
-                (λ e. absurd (cc)) in
+          (λ e. let a = both_first (nat_le (low + 1) g) (nat_lt g (low + 1 + n)) e in let a' : low + 1 ≤ g = grind (arith, nat_tests) in absurd (omega arith))
+          (λ e. absurd (cc)) in
           let rest_none = rest ∙ ap (λ b. one_if (p g && b)) none ∙ ap one_if (and_none (p g)) in
           let here : (nat_le low g && nat_lt g (low + suc n)) ≡ true = both (nat_le low g) (nat_lt g (low + suc n)) (grind (arith, nat_tests)) (lt_test g (low + suc n) (omega arith)) in
           counted-filter (p low) (same_one g) low (filter p (range_with_len (low + 1) n))
@@ -105,11 +105,11 @@ occurs-range p g low (suc n) =
       | false ↦ λ is.
           let other : g ≢ low = grind (arith, nat_tests) in
           let step : (nat_le (low + 1) g && nat_lt g (low + 1 + n)) ≡ (nat_le low g && nat_lt g (low + suc n)) =
-                bool_same (nat_le (low + 1) g && nat_lt g (low + 1 + n)) (nat_le low g && nat_lt g (low + suc n))
-                (λ e. let a = both_first (nat_le (low + 1) g) (nat_lt g (low + 1 + n)) e in let b = lt_is g (low + 1 + n) (both_second (nat_le (low + 1) g) (nat_lt g (low + 1 + n)) e) in let a' : low + 1 ≤ g = grind (arith, nat_tests) in
-                  both (nat_le low g) (nat_lt g (low + suc n)) (grind (arith, nat_tests)) (lt_test g (low + suc n) (omega arith)))
-                (λ e. let a = both_first (nat_le low g) (nat_lt g (low + suc n)) e in let b = lt_is g (low + suc n) (both_second (nat_le low g) (nat_lt g (low + suc n)) e) in let a' : low ≤ g = grind (arith, nat_tests) in
-                  both (nat_le (low + 1) g) (nat_lt g (low + 1 + n)) (let more : low + 1 ≤ g = omega arith in grind (arith, nat_tests)) (lt_test g (low + 1 + n) (omega arith))) in
+          bool_same (nat_le (low + 1) g && nat_lt g (low + 1 + n)) (nat_le low g && nat_lt g (low + suc n))
+          (λ e. let a = both_first (nat_le (low + 1) g) (nat_lt g (low + 1 + n)) e in let b = lt_is g (low + 1 + n) (both_second (nat_le (low + 1) g) (nat_lt g (low + 1 + n)) e) in let a' : low + 1 ≤ g = grind (arith, nat_tests) in
+          both (nat_le low g) (nat_lt g (low + suc n)) (grind (arith, nat_tests)) (lt_test g (low + suc n) (omega arith)))
+          (λ e. let a = both_first (nat_le low g) (nat_lt g (low + suc n)) e in let b = lt_is g (low + suc n) (both_second (nat_le low g) (nat_lt g (low + suc n)) e) in let a' : low ≤ g = grind (arith, nat_tests) in
+          both (nat_le (low + 1) g) (nat_lt g (low + 1 + n)) (let more : low + 1 ≤ g = omega arith in grind (arith, nat_tests)) (lt_test g (low + 1 + n) (omega arith))) in
           counted-filter (p low) (same_one g) low (filter p (range_with_len (low + 1) n))
           ∙ ap₂ (λ (a b : ℕ). a + b) (ap (λ b. cond (p low) (one_if b) 0) is ∙ cond_zero (p low)) rest
           ∙ zero_before (one_if (p g && (nat_le (low + 1) g && nat_lt g (low + 1 + n))))
@@ -160,7 +160,7 @@ sum_by-agree_on f g Q h (x ∷ xs) q =
 
 -- how often a list occurs among the children of a node
 occurs-children : (genus k : ℕ) (zs : List ℕ) (g : ℕ) (m : List ℕ) → k < genus → length m ≡ k →
-  occurs (zs ++ g ∷ []) (children_of genus m) ≡ only zs m * one_if (is_generator zs g && nat_lt g (2 * length zs + 2))
+    occurs (zs ++ g ∷ []) (children_of genus m) ≡ only zs m * one_if (is_generator zs g && nat_lt g (2 * length zs + 2))
 occurs-children genus k zs g m few long =
     let opens : nat_lt (length m) genus ≡ true = lt_test (length m) genus (omega arith) in
     let n = 2 * length m + 2 in
@@ -233,7 +233,7 @@ once genus (suc k) (y ∷ ys) h =
     ∙ ap (occurs (zs ++ g ∷ [])) (level-more (children_of genus) k [])
     ∙ sum_by-flat_map (only (zs ++ g ∷ [])) (children_of genus) ns
     ∙ sum_by-agree_on (λ m. occurs (zs ++ g ∷ []) (children_of genus m)) (λ m. only zs m * c) (λ (m : List ℕ). length m ≡ k)
-      (λ m long. occurs-children genus k zs g m (omega arith) long) ns (level-lengths genus k)
+    (λ m long. occurs-children genus k zs g m (omega arith) long) ns (level-lengths genus k)
     ∙ sum_by-times (only zs) c ns
     ∙ ap (λ n. n * c) (once genus k zs (omega arith))
     ∙ times_if (IsCounted k zs) (is_generator zs g && nat_lt g (2 * length zs + 2))
@@ -247,20 +247,20 @@ occurs-gap_sets k high xs h =
     ∙ ap (λ n. cond (is_gap_set xs) n 0) (occurs-choices xs k 1 high high (omega arith))
     ∙ if_and (is_gap_set xs) (is_choice k 1 high xs)
     ∙ ap one_if (bool_same (is_gap_set xs && is_choice k 1 high xs) (IsCounted k xs)
-      (λ e.
-      let gaps = both_first (is_gap_set xs) (is_choice k 1 high xs) e in
-      let choice = both_second (is_gap_set xs) (is_choice k 1 high xs) e in
-      let test = both_first (length xs == k) (rises_from 1 high xs) choice in
-      let long : length xs ≡ k = grind (arith, nat_tests) in
-      let closed = closed-from_test xs gaps in
-      counted-from_known k xs (record { closed = closed; rises = within-bound 1 high xs closed (both_second (length xs == k) (rises_from 1 high xs) choice) }) long)
-      (λ e.
-      let gaps = both_first (is_gap_set xs) (is_choice k 1 (2 * k - 1) xs) e in
-      let choice = both_second (is_gap_set xs) (is_choice k 1 (2 * k - 1) xs) e in
-      let rises = both_second (length xs == k) (rises_from 1 (2 * k - 1) xs) choice in
-      both (is_gap_set xs) (is_choice k 1 high xs) gaps
-      (both (length xs == k) (rises_from 1 high xs) (both_first (length xs == k) (rises_from 1 (2 * k - 1) xs) choice)
-      (rises-below 1 (2 * k - 1) high xs (λ x inside. let at = rises-at 1 (2 * k - 1) xs x rises inside in let most = at.1 in omega arith) rises))))
+    (λ e.
+    let gaps = both_first (is_gap_set xs) (is_choice k 1 high xs) e in
+    let choice = both_second (is_gap_set xs) (is_choice k 1 high xs) e in
+    let test = both_first (length xs == k) (rises_from 1 high xs) choice in
+    let long : length xs ≡ k = grind (arith, nat_tests) in
+    let closed = closed-from_test xs gaps in
+    counted-from_known k xs (record { closed = closed; rises = within-bound 1 high xs closed (both_second (length xs == k) (rises_from 1 high xs) choice) }) long)
+    (λ e.
+    let gaps = both_first (is_gap_set xs) (is_choice k 1 (2 * k - 1) xs) e in
+    let choice = both_second (is_gap_set xs) (is_choice k 1 (2 * k - 1) xs) e in
+    let rises = both_second (length xs == k) (rises_from 1 (2 * k - 1) xs) choice in
+    both (is_gap_set xs) (is_choice k 1 high xs) gaps
+    (both (length xs == k) (rises_from 1 high xs) (both_first (length xs == k) (rises_from 1 (2 * k - 1) xs) choice)
+    (rises-below 1 (2 * k - 1) high xs (λ x inside. let at = rises-at 1 (2 * k - 1) xs x rises inside in let most = at.1 in omega arith) rises))))
 
 -- sets with greater members add none
 pub gap_sets-greater : (k high : ℕ) → 2 * k - 1 ≤ high → SameBag (filter is_gap_set (choices k (range_with_len 1 high))) (gap_sets k)

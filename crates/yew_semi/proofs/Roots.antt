@@ -13,17 +13,17 @@ root-least = record { positive = omega arith; member = refl; least = λ x from b
 
 pub root-words : AreWords 0 170141183460469231731687303715884105727 1 0
 root-words = record {
-      gaps_fit = lit< tt;
-      mirror_fits = lit< tt;
-      zero_inside = refl;
-      mirror_zero = refl;
-      mirrored = λ x from small.
-            let ones : bit_at (2 ^ 127 - 1) (127 - x) ≡ 1 = bit_at_ones 127 (127 - x) (omega arith) in
-            let none = bit_at-zero x in
-            ones ∙ sym (ap (λ n. 1 - n) none);
-      least = subst (λ xs. IsLeastMember xs 1) (sym bits_of-zero) root-least;
-      count = sym (ap length bits_of-zero);
-    }
+  gaps_fit = lit< tt;
+  mirror_fits = lit< tt;
+  zero_inside = refl;
+  mirror_zero = refl;
+  mirrored = λ x from small.
+      let ones : bit_at (2 ^ 127 - 1) (127 - x) ≡ 1 = bit_at_ones 127 (127 - x) (omega arith) in
+      let none = bit_at-zero x in
+      ones ∙ sym (ap (λ n. 1 - n) none);
+  least = subst (λ xs. IsLeastMember xs 1) (sym bits_of-zero) root-least;
+  count = sym (ap length bits_of-zero);
+}
 
 -- a greater number is a sum of 1 and a member
 one-from_minimal : (x : ℕ) → IsMinimal [] x → x ≡ 1
@@ -35,16 +35,16 @@ one-from_minimal x minimal =
 
 root-inherited-nil : AreInherited [] 2 2
 root-inherited-nil = record {
-      fits = lit< tt;
-      each = λ x within bit.
-            test_cases (x == 1)
-            (λ e. let same : 1 ≡ x = sym (equal_is x 1 e) in subst (λ y. is_generator [] y ≡ true) same refl)
-            (λ e. let none : bit_at (2 ^ 1) x ≡ 0 = bit_at-pow_other 1 x (other_is x 1 e) in absurd (omega arith));
-      others = λ x within away test. let same = one-from_minimal x (minimal-from_test [] x test) in ap (bit_at 2) same;
-      above = λ x inside. absurd (cc);
-      positive = omega arith;
-      small = omega arith;
-    }
+  fits = lit< tt;
+  each = λ x within bit.
+      test_cases (x == 1)
+      (λ e. let same : 1 ≡ x = sym (equal_is x 1 e) in subst (λ y. is_generator [] y ≡ true) same refl)
+      (λ e. let none : bit_at (2 ^ 1) x ≡ 0 = bit_at-pow_other 1 x (other_is x 1 e) in absurd (omega arith));
+  others = λ x within away test. let same = one-from_minimal x (minimal-from_test [] x test) in ap (bit_at 2) same;
+  above = λ x inside. absurd (cc);
+  positive = omega arith;
+  small = omega arith;
+}
 
 pub root-inherited : AreInherited (bits_of 0) 2 2
 root-inherited = subst (λ xs. AreInherited xs 2 2) (sym bits_of-zero) root-inherited-nil

@@ -40,6 +40,10 @@ pub bits_of-zero : bits_of 0 ≡ []
 unfolding bits_of
 bits_of-zero = refl
 
+pub contains-bits : (w x : ℕ) → x < 128 → contains (bits_of w) x ≡ (bit_at w x == 1)
+unfolding bits_of
+contains-bits w x h = contains-filter (λ y. bit_at w y == 1) 0 128 x (omega arith) (omega arith)
+
 -- a member of the bits is a bit that is set
 pub bits-inside : (w x : ℕ) → bit_at w x ≡ 1 → x < 128 → contains (bits_of w) x ≡ true
 unfolding bits_of
@@ -80,14 +84,14 @@ bits_of-generators gaps left known few sound whole =
     (λ e. one_test left x (whole x (omega arith) e)))
     ∙ sym (ap (λ k. filter (is_generator gaps) (range_with_len 0 k)) long)
     ∙ filter-longer (is_generator gaps) 0 n (128 - n)
-      (λ x past. bool_same (is_generator gaps x) false
-      (λ e. let most = generator-bound gaps x known (minimal-from_test gaps x e) in absurd (omega arith))
-      (λ e. absurd (cc)))
+    (λ x past. bool_same (is_generator gaps x) false
+    (λ e. let most = generator-bound gaps x known (minimal-from_test gaps x e) in absurd (omega arith))
+    (λ e. absurd (cc)))
 
 -- the words of a semigroup without a generator
 pub words-without : (gaps mirror m genus gaps' mirror' m' g : ℕ) → AreWords gaps mirror m genus → g < 128 → IsMinimal (bits_of gaps) g → IsLeastMember (without (bits_of gaps) g) m' → gaps' < 2 ^ 128 → mirror' < 2 ^ 128 →
-  bit_at gaps' g ≡ 1 → ((x : ℕ) → x ≢ g → bit_at gaps' x ≡ bit_at gaps x) →
-  bit_at mirror' (127 - g) ≡ 0 → ((x : ℕ) → x < 128 → x ≢ 127 - g → bit_at mirror' x ≡ bit_at mirror x) → AreWords gaps' mirror' m' (genus + 1)
+    bit_at gaps' g ≡ 1 → ((x : ℕ) → x ≢ g → bit_at gaps' x ≡ bit_at gaps x) →
+    bit_at mirror' (127 - g) ≡ 0 → ((x : ℕ) → x < 128 → x ≢ 127 - g → bit_at mirror' x ≡ bit_at mirror x) → AreWords gaps' mirror' m' (genus + 1)
 words-without gaps mirror m genus gaps' mirror' m' g words within minimal least fits fits' new old new' old' =
     let positive = minimal.positive in
     let is = bits_of-push gaps gaps' g within new old minimal.above in
@@ -100,11 +104,11 @@ words-without gaps mirror m genus gaps' mirror' m' g words within minimal least 
       zero_inside = old 0 (omega arith) ∙ words.zero_inside;
       mirror_zero = old' 127 (omega arith) (omega arith) ∙ words.mirror_zero;
       mirrored = λ x from small.
-            test_cases (x == g)
-            (λ e. let same : x ≡ g = equal_is x g e in
-              ap (λ y. bit_at mirror' (127 - y)) same ∙ new' ∙ sym (ap (λ n. 1 - n) (ap (bit_at gaps') same ∙ new)))
-            (λ e. let other : x ≢ g = other_is x g e in
-              old' (127 - x) (omega arith) (omega arith) ∙ words.mirrored x from small ∙ ap (λ n. 1 - n) (sym (old x other)));
+          test_cases (x == g)
+          (λ e. let same : x ≡ g = equal_is x g e in
+          ap (λ y. bit_at mirror' (127 - y)) same ∙ new' ∙ sym (ap (λ n. 1 - n) (ap (bit_at gaps') same ∙ new)))
+          (λ e. let other : x ≢ g = other_is x g e in
+          old' (127 - x) (omega arith) (omega arith) ∙ words.mirrored x from small ∙ ap (λ n. 1 - n) (sym (old x other)));
       least = subst (λ ys. IsLeastMember ys m') (sym is) least;
       count = omega arith;
     }
@@ -117,8 +121,8 @@ sums-bit : (gaps mirror c a : ℕ) → gaps < 2 ^ 128 → a < 128 → bit_at (su
 sums-bit gaps mirror c a fits small =
     bit_at_and (bit_not w128 (bit_or gaps 1)) (mirror / 2 ^ (127 - c)) a
     ∙ ap₂ min
-      (bit_at_not w128 (bit_or gaps 1) a (or_lt 128 gaps 1 fits (lit< tt)) small ∙ ap (λ n. 1 - n) (bit_at_or gaps 1 a))
-      (bit_at-shifted mirror (127 - c) a)
+    (bit_at_not w128 (bit_or gaps 1) a (or_lt 128 gaps 1 fits (lit< tt)) small ∙ ap (λ n. 1 - n) (bit_at_or gaps 1 a))
+    (bit_at-shifted mirror (127 - c) a)
 
 one-bit : (a : ℕ) → 0 < a → bit_at 1 a ≡ 0
 one-bit a positive = bit_at-pow_other 0 a (omega arith)
@@ -129,18 +133,18 @@ module _ (gaps mirror m genus c : ℕ) (words : AreWords gaps mirror m genus) (a
 
   pub minimal-from_sums : sums_of gaps mirror c ≡ 0 → IsMinimal (bits_of gaps) c
   minimal-from_sums none = record {
-        positive = positive;
-        above = above;
-        no_sum = λ a from below one other.
-              let bit = sums-bit gaps mirror c a words.gaps_fit (omega arith) in
-              let zero_bit = ap (λ w. bit_at w a) none ∙ bit_at-zero a in
-              let first = outside-bit a (omega arith) one in
-              let second = outside-bit (c - a) (omega arith) other in
-              let unit = one-bit a from in
-              let place : 127 - c + a ≡ 127 - (c - a) = omega arith in
-              let mirror_bit = ap (bit_at mirror) place ∙ words.mirrored (c - a) (omega arith) (omega arith) in
-              omega arith;
-      }
+    positive = positive;
+    above = above;
+    no_sum = λ a from below one other.
+        let bit = sums-bit gaps mirror c a words.gaps_fit (omega arith) in
+        let zero_bit = ap (λ w. bit_at w a) none ∙ bit_at-zero a in
+        let first = outside-bit a (omega arith) one in
+        let second = outside-bit (c - a) (omega arith) other in
+        let unit = one-bit a from in
+        let place : 127 - c + a ≡ 127 - (c - a) = omega arith in
+        let mirror_bit = ap (bit_at mirror) place ∙ words.mirrored (c - a) (omega arith) (omega arith) in
+        omega arith;
+  }
 
   pub sums-from_minimal : IsMinimal (bits_of gaps) c → sums_of gaps mirror c ≡ 0
   sums-from_minimal minimal =
@@ -151,20 +155,20 @@ module _ (gaps mirror m genus c : ℕ) (words : AreWords gaps mirror m genus) (a
       test_cases (a == 0)
       (λ e. let at : a ≡ 0 = equal_is a 0 e in let unit : bit_at 1 a ≡ 1 = ap (bit_at 1) at ∙ bit_at-pow_same 0 in let least = bit_at-lt gaps a in omega arith)
       (λ e. let from : a ≢ 0 = other_is a 0 e in
-        let unit = one-bit a (omega arith) in
-        test_cases (nat_lt a c)
-        (λ f. let below : a < c = less_is a c f in
-          let place : 127 - c + a ≡ 127 - (c - a) = omega arith in
-          let mirror_bit = ap (bit_at mirror) place ∙ words.mirrored (c - a) (omega arith) (omega arith) in
-          bit_cases gaps a
-          (λ g. bit_cases gaps (c - a)
-            (λ h. absurd (minimal.no_sum a (omega arith) below (bits-outside gaps a g within) (bits-outside gaps (c - a) h (omega arith))))
-            (λ h. omega arith))
-          (λ g. omega arith))
-        (λ f. let past : c ≤ a = least_is a c f in
-          test_cases (a == c)
-          (λ g. let same : a ≡ c = equal_is a c g in let place : 127 - c + a ≡ 127 = omega arith in let mirror_bit = ap (bit_at mirror) place ∙ words.mirror_zero in omega arith)
-          (λ g. let other : a ≢ c = other_is a c g in let mirror_bit = bit_at_above mirror 128 (127 - c + a) words.mirror_fits (omega arith) in omega arith))))
+      let unit = one-bit a (omega arith) in
+      test_cases (nat_lt a c)
+      (λ f. let below : a < c = less_is a c f in
+      let place : 127 - c + a ≡ 127 - (c - a) = omega arith in
+      let mirror_bit = ap (bit_at mirror) place ∙ words.mirrored (c - a) (omega arith) (omega arith) in
+      bit_cases gaps a
+      (λ g. bit_cases gaps (c - a)
+      (λ h. absurd (minimal.no_sum a (omega arith) below (bits-outside gaps a g within) (bits-outside gaps (c - a) h (omega arith))))
+      (λ h. omega arith))
+      (λ g. omega arith))
+      (λ f. let past : c ≤ a = least_is a c f in
+      test_cases (a == c)
+      (λ g. let same : a ≡ c = equal_is a c g in let place : 127 - c + a ≡ 127 = omega arith in let mirror_bit = ap (bit_at mirror) place ∙ words.mirror_zero in omega arith)
+      (λ g. let other : a ≢ c = other_is a c g in let mirror_bit = bit_at_above mirror 128 (127 - c + a) words.mirror_fits (omega arith) in omega arith))))
 
 bit_cases_within : (w x : ℕ) → w < 2 ^ 128 → bit_at w x ≡ 1 → x < 128
 bit_cases_within w x fits bit =
@@ -184,27 +188,27 @@ left-from_all gaps left all = record { fits = all.fits; each = all.each; greater
 -- the candidate is a generator
 pub all-with : (gaps : List ℕ) (inherited c left : ℕ) → AreInherited gaps inherited c → IsMinimal gaps c → left < 2 ^ 128 → bit_at left c ≡ 1 → ((x : ℕ) → x ≢ c → bit_at left x ≡ bit_at inherited x) → AreAll gaps left
 all-with gaps inherited c left given minimal fits new old = record {
-      fits = fits;
-      each = λ x within bit.
-            test_cases (x == c)
-            (λ e. let same : c ≡ x = sym (equal_is x c e) in subst (λ y. is_generator gaps y ≡ true) same (test-from_minimal gaps c minimal))
-            (λ e. given.each x within (sym (old x (other_is x c e)) ∙ bit));
-      others = λ x within test.
-            test_cases (x == c)
-            (λ e. ap (bit_at left) (equal_is x c e) ∙ new)
-            (λ e. let other = other_is x c e in old x other ∙ given.others x within other test);
-    }
+  fits = fits;
+  each = λ x within bit.
+      test_cases (x == c)
+      (λ e. let same : c ≡ x = sym (equal_is x c e) in subst (λ y. is_generator gaps y ≡ true) same (test-from_minimal gaps c minimal))
+      (λ e. given.each x within (sym (old x (other_is x c e)) ∙ bit));
+  others = λ x within test.
+      test_cases (x == c)
+      (λ e. ap (bit_at left) (equal_is x c e) ∙ new)
+      (λ e. let other = other_is x c e in old x other ∙ given.others x within other test);
+}
 
 -- and where it is none
 pub all-without : (gaps : List ℕ) (inherited c : ℕ) → AreInherited gaps inherited c → (IsMinimal gaps c → ⊥) → AreAll gaps inherited
 all-without gaps inherited c given fails = record {
-      fits = given.fits;
-      each = given.each;
-      others = λ x within test.
-            test_cases (x == c)
-            (λ e. absurd (fails (minimal-from_test gaps c (subst (λ y. is_generator gaps y ≡ true) (equal_is x c e) test))))
-            (λ e. given.others x within (other_is x c e) test);
-    }
+  fits = given.fits;
+  each = given.each;
+  others = λ x within test.
+      test_cases (x == c)
+      (λ e. absurd (fails (minimal-from_test gaps c (subst (λ y. is_generator gaps y ≡ true) (equal_is x c e) test))))
+      (λ e. given.others x within (other_is x c e) test);
+}
 
 -- the lowest of the generators that are left, and those after it
 module _ (gaps : List ℕ) (left after g : ℕ) (known : AreLeft gaps left) (within : g < 128) (set : bit_at left g ≡ 1) (lowest : (x : ℕ) → x < g → bit_at left x ≡ 0) (fits : after < 2 ^ 128) (new : bit_at after g ≡ 0) (old : (x : ℕ) → x < 128 → x ≢ g → bit_at after x ≡ bit_at left x) where
@@ -221,18 +225,18 @@ module _ (gaps : List ℕ) (left after g : ℕ) (known : AreLeft gaps left) (wit
 
   pub greater-after : AreGreater gaps g after
   greater-after = record {
-        fits = fits;
-        each = λ x small bit. let there = after-bit x small bit in (there.1, known.each x small there.0);
-        others = λ x small less test. old x small (omega arith) ∙ known.greater g x small set (omega arith) test;
-      }
+    fits = fits;
+    each = λ x small bit. let there = after-bit x small bit in (there.1, known.each x small there.0);
+    others = λ x small less test. old x small (omega arith) ∙ known.greater g x small set (omega arith) test;
+  }
 
   pub left-after : AreLeft gaps after
   left-after = record {
-        fits = fits;
-        each = λ x small bit. known.each x small (after-bit x small bit).0;
-        greater = λ x y small bit most test.
-              let x_small : x < 128 = bit_cases_within after x fits bit in
-              let there = after-bit x x_small bit in
-              let less = there.1 in
-              old y small (omega arith) ∙ known.greater x y small there.0 most test;
-      }
+    fits = fits;
+    each = λ x small bit. known.each x small (after-bit x small bit).0;
+    greater = λ x y small bit most test.
+        let x_small : x < 128 = bit_cases_within after x fits bit in
+        let there = after-bit x x_small bit in
+        let less = there.1 in
+        old y small (omega arith) ∙ known.greater x y small there.0 most test;
+  }

@@ -128,12 +128,12 @@ pub record IsClosed (xs : List ℕ) : Type 0 where
 
 pub closed-from_test : (xs : List ℕ) → is_gap_set xs ≡ true → IsClosed xs
 closed-from_test xs e = record {
-      no_sum = λ x a inside within one other.
-            let none = not_is (is_sum_outside xs x) (all-at (λ m. not (is_sum_outside xs m)) xs x e inside) in
-            let some = any-from_pass (λ b. not (contains xs b) && not (contains xs (x - b))) 0 (x + 1) a (omega arith) (omega arith)
-                  (both (not (contains xs a)) (not (contains xs (x - a))) (not_from (contains xs a) one) (not_from (contains xs (x - a)) other)) in
-            absurd (cc);
-    }
+  no_sum = λ x a inside within one other.
+      let none = not_is (is_sum_outside xs x) (all-at (λ m. not (is_sum_outside xs m)) xs x e inside) in
+      let some = any-from_pass (λ b. not (contains xs b) && not (contains xs (x - b))) 0 (x + 1) a (omega arith) (omega arith)
+      (both (not (contains xs a)) (not (contains xs (x - a))) (not_from (contains xs a) one) (not_from (contains xs (x - a)) other)) in
+      absurd (cc);
+}
 
 pub test-from_closed : (xs : List ℕ) → IsClosed xs → is_gap_set xs ≡ true
 test-from_closed xs closed =
@@ -165,9 +165,9 @@ minimal-from_test xs g e =
       positive = grind (arith, nat_tests);
       above = λ x inside. let less : nat_lt x g ≡ true = all-at (λ y. nat_lt y g) xs x all inside in grind (arith, nat_tests);
       no_sum = λ a from below one other.
-            let some = any-from_pass (λ b. not (contains xs b) && not (contains xs (g - b))) 1 (g - 1) a (omega arith) (omega arith)
-                  (both (not (contains xs a)) (not (contains xs (g - a))) (not_from (contains xs a) one) (not_from (contains xs (g - a)) other)) in
-            absurd (cc);
+          let some = any-from_pass (λ b. not (contains xs b) && not (contains xs (g - b))) 1 (g - 1) a (omega arith) (omega arith)
+          (both (not (contains xs a)) (not (contains xs (g - a))) (not_from (contains xs a) one) (not_from (contains xs (g - a)) other)) in
+          absurd (cc);
     }
 
 pub test-from_minimal : (xs : List ℕ) (g : ℕ) → IsMinimal xs g → is_generator xs g ≡ true

@@ -1,3 +1,4 @@
+pub mod CountText
 pub mod Depth
 pub mod GapBound
 pub mod GapLaws

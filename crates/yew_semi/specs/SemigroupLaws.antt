@@ -18,34 +18,34 @@ zero_or (suc a) = inr (omega arith)
 -- without the generator the members are still closed under sums
 pub closed-without : (xs : List ℕ) (g : ℕ) → IsClosed xs → IsMinimal xs g → IsClosed (without xs g)
 closed-without xs g closed minimal = record {
-      no_sum = λ x a inside within one other.
-            let first = snoc-outside xs g a one in
-            let second = snoc-outside xs g (x - a) other in
-            let not_g = first.0 in
-            let not_g' = second.0 in
-            elim (snoc-cases xs g x inside) [
-              | inl same ↦
-                  let e : contains xs (g - a) ≡ false = subst (λ y. contains xs (y - a) ≡ false) same second.1 in
-                  minimal.no_sum a (elim (zero_or a) [ inl none ↦ absurd (omega arith) | inr some ↦ some ]) (omega arith) first.1 e
-              | inr old ↦ closed.no_sum x a old within first.1 second.1
-            ];
-    }
+  no_sum = λ x a inside within one other.
+      let first = snoc-outside xs g a one in
+      let second = snoc-outside xs g (x - a) other in
+      let not_g = first.0 in
+      let not_g' = second.0 in
+      elim (snoc-cases xs g x inside) [
+        | inl same ↦
+            let e : contains xs (g - a) ≡ false = subst (λ y. contains xs (y - a) ≡ false) same second.1 in
+            minimal.no_sum a (elim (zero_or a) [ inl none ↦ absurd (omega arith) | inr some ↦ some ]) (omega arith) first.1 e
+        | inr old ↦ closed.no_sum x a old within first.1 second.1
+      ];
+}
 
 -- and the greatest gap of a semigroup is a minimal generator once it is put back
 pub minimal-last : (xs : List ℕ) (g : ℕ) → IsClosed (without xs g) → ((x : ℕ) → contains xs x ≡ true → x < g) → 0 < g → IsMinimal xs g
 minimal-last xs g closed above positive = record {
-      positive = positive;
-      above = above;
-      no_sum = λ a from below one other.
-            closed.no_sum g a (snoc-new xs g) (omega arith) (snoc-kept xs g a (omega arith) ∙ one) (snoc-kept xs g (g - a) (omega arith) ∙ other);
-    }
+  positive = positive;
+  above = above;
+  no_sum = λ a from below one other.
+      closed.no_sum g a (snoc-new xs g) (omega arith) (snoc-kept xs g a (omega arith) ∙ one) (snoc-kept xs g (g - a) (omega arith) ∙ other);
+}
 
 pub closed-front : (xs : List ℕ) (g : ℕ) → IsClosed (without xs g) → ((x : ℕ) → contains xs x ≡ true → x < g) → IsClosed xs
 closed-front xs g closed above = record {
-      no_sum = λ x a inside within one other.
-            let less = above x inside in
-            closed.no_sum x a (snoc-old xs g x inside) within (snoc-kept xs g a (omega arith) ∙ one) (snoc-kept xs g (x - a) (omega arith) ∙ other);
-    }
+  no_sum = λ x a inside within one other.
+      let less = above x inside in
+      closed.no_sum x a (snoc-old xs g x inside) within (snoc-kept xs g a (omega arith) ∙ one) (snoc-kept xs g (x - a) (omega arith) ∙ other);
+}
 
 -- a set of gaps has no number above 2k - 1
 pub within-bound : (low high : ℕ) (xs : List ℕ) → IsClosed xs → rises_from low high xs ≡ true → rises_from low (2 * length xs - 1) xs ≡ true
@@ -72,9 +72,10 @@ known-without gaps g known minimal =
 pub known-front : (gaps : List ℕ) (g : ℕ) → Known (without gaps g) → Known gaps × IsMinimal gaps g
 known-front gaps g known =
     let parts = snoc-rises 1 (2 * length (without gaps g) - 1) gaps g known.rises in
-    let closed = closed-front gaps g known.closed parts.above in
-    ( record { closed = closed; rises = within-bound 1 (2 * length (without gaps g) - 1) gaps closed parts.front },
-      minimal-last gaps g known.closed parts.above parts.from )
+    let closed = closed-front gaps g known.closed parts.above in (
+      record { closed = closed; rises = within-bound 1 (2 * length (without gaps g) - 1) gaps closed parts.front },
+      minimal-last gaps g known.closed parts.above parts.from,
+    )
 
 -- a minimal generator above the Frobenius number is at most 2k + 1
 pub generator-bound : (gaps : List ℕ) (g : ℕ) → Known gaps → IsMinimal gaps g → g ≤ 2 * length gaps + 1
@@ -92,8 +93,8 @@ filtered : (p : ℕ → Bool) (P : ℕ → Type 0) → ((x : ℕ) → p x ≡ tr
 filtered p P h [] = tt
 filtered p P h (x ∷ xs) =
     elim (p x) as (λ b. p x ≡ b → AllByRecursion P (cond b (x ∷ filter p xs) (filter p xs)))
-      [ true ↦ λ e. (h x e, filtered p P h xs) | false ↦ λ e. filtered p P h xs ]
-      refl
+    [ true ↦ λ e. (h x e, filtered p P h xs) | false ↦ λ e. filtered p P h xs ]
+    refl
 
 mapped : (P : List ℕ → Type 0) (Q : ℕ → Type 0) (f : ℕ → List ℕ) → ((x : ℕ) → Q x → P (f x)) → (xs : List ℕ) → AllByRecursion Q xs → AllByRecursion P (map f xs)
 mapped P Q f h [] a = tt
@@ -106,20 +107,20 @@ children-all genus P gaps h =
       | true ↦ λ e.
           let few : length gaps < genus = grind (arith, nat_tests) in
           mapped P (IsMinimal gaps) (without gaps) (λ g minimal. h g few minimal) (generators_above gaps)
-            (filtered (is_generator gaps) (IsMinimal gaps) (λ g e'. minimal-from_test gaps g e') (range_with_len 0 (2 * length gaps + 2)))
+          (filtered (is_generator gaps) (IsMinimal gaps) (λ g e'. minimal-from_test gaps g e') (range_with_len 0 (2 * length gaps + 2)))
       | false ↦ λ e. tt
     ]
     refl
 
 pub semigroups-ranked : (genus : ℕ) → IsRanked (IsSemigroup genus) (children_of genus) (rank_of genus)
 semigroups-ranked genus = record {
-      stays_sound = λ gaps s.
-            children-all genus (IsSemigroup genus) gaps
-            (λ g few minimal. let longer = length_push gaps g in semigroup-from genus (without gaps g) (known-without gaps g (known-from s) minimal) (omega arith));
-      rank_falls = λ gaps s.
-            children-all genus (λ c. rank_of genus c < rank_of genus gaps) gaps
-            (λ g few minimal. let longer = length_push gaps g in omega arith);
-    }
+  stays_sound = λ gaps s.
+      children-all genus (IsSemigroup genus) gaps
+      (λ g few minimal. let longer = length_push gaps g in semigroup-from genus (without gaps g) (known-without gaps g (known-from s) minimal) (omega arith));
+  rank_falls = λ gaps s.
+      children-all genus (λ c. rank_of genus c < rank_of genus gaps) gaps
+      (λ g few minimal. let longer = length_push gaps g in omega arith);
+}
 
 pub semigroups-bounded : (genus : ℕ) → IsBounded (IsSemigroup genus) (children_of genus) (λ _. 0) (λ _. 1)
 semigroups-bounded genus = record { bounds = λ n m path s e. omega arith; fits = λ n s. omega arith }

@@ -86,11 +86,11 @@ snoc-rises low high (y ∷ ys) g e =
       from = omega arith;
       within = rest.within;
       above = λ x f.
-            elim (y == x) as (λ b. (y == x) ≡ b → (b || contains ys x) ≡ true → x < g) [
-              | true ↦ λ is f'. let same : y ≡ x = grind (arith, nat_tests) in omega arith
-              | false ↦ λ is f'. rest.above x f'
-            ]
-            refl f;
+          elim (y == x) as (λ b. (y == x) ≡ b → (b || contains ys x) ≡ true → x < g) [
+            | true ↦ λ is f'. let same : y ≡ x = grind (arith, nat_tests) in omega arith
+            | false ↦ λ is f'. rest.above x f'
+          ]
+          refl f;
     }
 
 pub rises-snoc : (low high : ℕ) (xs : List ℕ) (g : ℕ) → rises_from low high xs ≡ true → ((x : ℕ) → contains xs x ≡ true → x < g) → low ≤ g → g ≤ high → rises_from low high (xs ++ g ∷ []) ≡ true

@@ -7,8 +7,14 @@
 //! 2009; Fromentin and Hivert, Exploring the tree of numerical semigroups, 2016).
 #![tactic(auto)]
 
+pub mod laws;
 mod semigroup;
 mod semigroups;
+mod text;
 
 pub use semigroup::{Generators, Semigroup};
 pub use semigroups::Semigroups;
+pub use text::count_text;
+
+#[cfg(test)]
+mod tests;

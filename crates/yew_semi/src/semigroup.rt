@@ -2,6 +2,7 @@
 
 ghost use Rattle.std.specs.Prelude.{◌≡◌, ◌+◌, ◌<◌, true, List, ℕ, [], ◌∷◌, map, length, MatchOption};
 ghost use Rattle.std.specs.List.{AllByRecursion};
+ghost use Rattle.yew_laws.specs.Sets.{contains};
 ghost use Rattle.yew_semi.specs.SemigroupTree.{generators_above, is_generator, without, IsSemigroup};
 ghost use Rattle.yew_semi.specs.Words.{bits_of, AreWords, AreInherited, AreGreater, IsLeastMember};
 
@@ -86,6 +87,13 @@ impl Semigroup {
         ensures { result ≡ length self.now }
     {
         self.words.genus
+    }
+
+    /// Whether a number is a gap.
+    pub fn is_gap(&self, number: u32) -> bool
+        ensures { result ≡ contains self.now number }
+    {
+        number < 128 && (self.words.gaps >> number) & 1 == 1
     }
 
     /// The semigroups without one of the minimal generators above the Frobenius number, by rising generator.

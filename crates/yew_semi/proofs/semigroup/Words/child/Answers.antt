@@ -18,7 +18,7 @@ returns c =
     let within = c.requires.generator.0 in
     let gaps = c.args.self.gaps in
     bits_of-push gaps (bit_or gaps (1 * 2 ^ g % 2 ^ 128)) g within (bit_at_set_same w128 gaps g within) (bit_at_set_other w128 gaps g within)
-        (minimal-from_test (bits_of gaps) g c.requires.generator.1).above
+    (minimal-from_test (bits_of gaps) g c.requires.generator.1).above
 
 pub invariant_of-result : goal.invariant_of-result
 invariant_of-result c =
@@ -34,9 +34,10 @@ invariant_of-result c =
     let small : 127 - g < 128 = omega arith in
     let most = and_le_l mirror (bit_not w128 (1 * 2 ^ (127 - g) % 2 ^ 128)) in
     let mirror_fits = words.mirror_fits in
-    let is = bits_of-push gaps gaps' g within (bit_at_set_same w128 gaps g within) (bit_at_set_other w128 gaps g within) minimal.above in
-    ( words-without gaps mirror c.args.self.multiplicity c.args.self.genus gaps' mirror' c.args.multiplicity g words within minimal c.requires.multiplicity
-        (or_lt 128 gaps (1 * 2 ^ g % 2 ^ 128) words.gaps_fit bit) (omega arith)
-        (bit_at_set_same w128 gaps g within) (bit_at_set_other w128 gaps g within)
-        (bit_at_clear_same w128 mirror (127 - g) small) (λ x below other. bit_at_clear_other w128 mirror (127 - g) small x below other),
-      subst (λ xs. AreInherited xs c.args.inherited (g + c.args.multiplicity)) (sym is) c.requires.inherited )
+    let is = bits_of-push gaps gaps' g within (bit_at_set_same w128 gaps g within) (bit_at_set_other w128 gaps g within) minimal.above in (
+      words-without gaps mirror c.args.self.multiplicity c.args.self.genus gaps' mirror' c.args.multiplicity g words within minimal c.requires.multiplicity
+          (or_lt 128 gaps (1 * 2 ^ g % 2 ^ 128) words.gaps_fit bit) (omega arith)
+          (bit_at_set_same w128 gaps g within) (bit_at_set_other w128 gaps g within)
+          (bit_at_clear_same w128 mirror (127 - g) small) (λ x below other. bit_at_clear_other w128 mirror (127 - g) small x below other),
+      subst (λ xs. AreInherited xs c.args.inherited (g + c.args.multiplicity)) (sym is) c.requires.inherited,
+    )

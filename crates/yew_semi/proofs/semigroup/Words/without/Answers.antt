@@ -35,8 +35,8 @@ child-requires-clause-inherited c =
     let greater = c.args.greater in
     let within = twice_small xs g m c.requires.small c.requires.words.least c.if-generator-self.true in
     inherited-next xs g m greater (bit_or greater (1 * 2 ^ (2 * g) % 2 ^ 128)) (minimal-from_test xs g c.requires.generator.1) c.requires.words.least c.if-generator-self.true c.requires.greater c.requires.small
-        (or_lt 128 greater (1 * 2 ^ (2 * g) % 2 ^ 128) c.requires.greater.fits (mod-lt (1 * 2 ^ (2 * g)) (pow_pos 128)))
-        (bit_at_set_same w128 greater (2 * g) within) (bit_at_set_other w128 greater (2 * g) within)
+    (or_lt 128 greater (1 * 2 ^ (2 * g) % 2 ^ 128) c.requires.greater.fits (mod-lt (1 * 2 ^ (2 * g)) (pow_pos 128)))
+    (bit_at_set_same w128 greater (2 * g) within) (bit_at_set_other w128 greater (2 * g) within)
 
 pub child-requires-else-generator-self-clause-multiplicity : goal.child-requires-else-generator-self-clause-multiplicity
 child-requires-else-generator-self-clause-multiplicity c =
