@@ -1,14 +1,14 @@
 -- The sets of k numbers of a range are the rising lists of k numbers of that range, each once.
-use Rattle.std.proofs.Common.{◌≡◌, ◌≢◌, ℕ, zero, suc, ◌+◌, ◌-◌, ◌*◌, ◌<◌, ◌≤◌, Bool, true, false, cond, ◌&&◌, ◌==◌, List, [], ◌∷◌, ◌++◌, map, filter, length, nat_le, refl, ap, ap₂, sym, ◌∙◌, arith}
+use Rattle.std.proofs.Common.{◌≡◌, ◌≢◌, ℕ, zero, suc, ◌+◌, ◌<◌, ◌≤◌, Bool, true, false, cond, ◌&&◌, ◌==◌, List, [], ◌∷◌, map, filter, length, nat_le, refl, ap, ap₂, sym, ◌∙◌, arith}
 use Rattle.std.specs.List.{range_with_len, sum_by}
 use Rattle.std.proofs.lemmas.Bool.Decides.{nat_tests}
 use Rattle.std.proofs.lemmas.List.Sums.{sum_by-cons, sum_by-append}
 use Rattle.yew_laws.specs.Order.{is_path, only, occurs}
 use Rattle.yew_laws.proofs.Bags.{sum_by-map}
 use Rattle.yew_laws.proofs.PathTests.{is_path-is}
-use Rattle.yew_semi.specs.GapLaws.{both_first, both_second, both, bool_same}
+use Rattle.yew_semi.specs.GapLaws.{both_second, bool_same}
 use Rattle.yew_semi.specs.Gaps.{choices}
-use Rattle.yew_semi.specs.SetLaws.{rises_from, Rises, rises-parts, rises-made, rises-lower}
+use Rattle.yew_semi.specs.SetLaws.{rises_from, rises-parts, rises-made, rises-lower}
 
 -- 1 for true
 abbrev pub one_if : Bool → ℕ

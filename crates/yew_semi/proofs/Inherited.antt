@@ -1,13 +1,12 @@
 -- Which generators a semigroup has from its parent.
-use Rattle.std.proofs.Common.{◌≡◌, ◌≢◌, ℕ, zero, suc, ◌+◌, ◌-◌, ◌*◌, ◌^◌, ◌<◌, ◌≤◌, Bool, true, false, not, ◌&&◌, ◌==◌, nat_lt, List, [], ◌∷◌, ◌++◌, length, ◌⊎◌, inl, inr, refl, ap, ap₂, sym, subst, ◌∙◌, arith}
+use Rattle.std.proofs.Common.{◌≡◌, ◌≢◌, ℕ, zero, suc, ◌+◌, ◌-◌, ◌*◌, ◌^◌, ◌<◌, ◌≤◌, Bool, true, false, not, ◌&&◌, ◌==◌, nat_lt, List, length, inl, inr, refl, ap, sym, subst, ◌∙◌, arith}
 use Rattle.std.proofs.lemmas.Bool.Decides.{nat_tests}
 use Rattle.std.specs.Int.{bit_at}
-use Rattle.std.specs.List.{list_all, list_any, range_with_len}
-use Rattle.std.proofs.lemmas.List.{length_push}
+use Rattle.std.specs.List.{list_all}
 use Rattle.yew_laws.specs.Sets.{contains}
 use Rattle.yew_semi.specs.GapBound.{gap-bound, members-all, members_to-length}
-use Rattle.yew_semi.specs.GapLaws.{both_first, both_second, both, bool_same, not_is, not_from, all-from, any-passes, Passes, IsMinimal, minimal-from_test, test-from_minimal, snoc-old, snoc-new, snoc-kept, snoc-cases, snoc-outside}
-use Rattle.yew_semi.specs.SemigroupLaws.{Known, known-from}
+use Rattle.yew_semi.specs.GapLaws.{both_first, both_second, both, not_is, not_from, all-from, any-passes, IsMinimal, minimal-from_test, test-from_minimal, snoc-old, snoc-new, snoc-kept, snoc-cases, snoc-outside}
+use Rattle.yew_semi.specs.SemigroupLaws.{known-from}
 use Rattle.yew_semi.specs.SemigroupTree.{is_sum_of_members, is_generator, without, IsSemigroup}
 use Rattle.yew_semi.specs.Words.{IsLeastMember, AreInherited, AreGreater}
 

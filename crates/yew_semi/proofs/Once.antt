@@ -1,9 +1,9 @@
 -- The nodes of the semigroup tree at depth k are the sets of gaps of genus k, each once.
 use Rattle.std.proofs.Common.{◌≡◌, ◌≢◌, ℕ, zero, suc, ◌+◌, ◌-◌, ◌*◌, ◌<◌, ◌≤◌, Bool, true, false, cond, ◌&&◌, ◌==◌, List, [], ◌∷◌, ◌++◌, map, filter, length, nat_le, nat_lt, if◌then◌else◌, refl, ap, ap₂, sym, subst, ◌∙◌, arith}
-use Rattle.std.specs.List.{AllByRecursion, flat_map, range_with_len, sum_by, count_by}
+use Rattle.std.specs.List.{AllByRecursion, range_with_len, sum_by}
 use Rattle.std.proofs.lemmas.Bool.Decides.{nat_tests}
-use Rattle.std.proofs.lemmas.List.{length_push, length-map}
-use Rattle.std.proofs.lemmas.List.Sums.{sum_by-cons, sum_by-append}
+use Rattle.std.proofs.lemmas.List.{length_push}
+use Rattle.std.proofs.lemmas.List.Sums.{sum_by-cons}
 use Rattle.yew_kinds.specs.DepthCounts.{members_at, saturated, depth_counts}
 use Rattle.yew_laws.specs.Bag.{SameBag}
 use Rattle.yew_laws.specs.Order.{is_path, only, occurs}
@@ -14,7 +14,7 @@ use Rattle.yew_laws.proofs.PathTests.{is_path-is}
 use Rattle.yew_semi.proofs.Choices.{one_if, is_choice, choice-empty, occurs-choices, occurs-filter, sum_by-zero, sum_by-agree, zero_before, zero_after}
 use Rattle.yew_semi.proofs.Levels.{level, level-more, all-flat_map, nodes_at-tree}
 use Rattle.yew_semi.specs.Depth.{nodes_at}
-use Rattle.yew_semi.specs.GapLaws.{both_first, both_second, both, bool_same, closed-from_test, test-from_closed, IsMinimal, minimal-from_test, test-from_minimal}
+use Rattle.yew_semi.specs.GapLaws.{both_first, both_second, both, bool_same, closed-from_test, test-from_closed, minimal-from_test, test-from_minimal}
 use Rattle.yew_semi.specs.Gaps.{is_gap_set, choices, gap_sets, semigroups_of_genus}
 use Rattle.yew_semi.specs.SemigroupLaws.{Known, known-without, known-front, known-root, generator-bound, children-all, semigroups-ranked, semigroup-from, within-bound}
 use Rattle.yew_semi.specs.SemigroupTree.{is_generator, generators_above, without, children_of, semigroup_tree}

@@ -1,8 +1,7 @@
 -- All whole numbers as words: 1 is the only minimal generator.
-use Rattle.std.proofs.Common.{◌≡◌, ◌≢◌, ℕ, zero, suc, ◌+◌, ◌-◌, ◌*◌, ◌^◌, ◌<◌, ◌≤◌, Bool, true, false, ◌==◌, List, [], length, lit<, refl, ap, sym, subst, ◌∙◌, arith}
-use Rattle.std.proofs.lemmas.Nat.Bits.{bit_at-zero, bit_at-pow_same, bit_at-pow_other, bit_at_ones, bit_at_ones_above}
+use Rattle.std.proofs.Common.{◌≡◌, ℕ, ◌-◌, ◌^◌, true, ◌==◌, [], length, lit<, refl, ap, sym, subst, ◌∙◌, arith}
+use Rattle.std.proofs.lemmas.Nat.Bits.{bit_at-zero, bit_at-pow_other, bit_at_ones}
 use Rattle.std.specs.Int.{bit_at}
-use Rattle.yew_laws.specs.Sets.{contains}
 use Rattle.yew_semi.specs.GapLaws.{IsMinimal, minimal-from_test}
 use Rattle.yew_semi.specs.SemigroupTree.{is_generator}
 use Rattle.yew_semi.specs.Words.{bits_of, IsLeastMember, AreWords, AreInherited}

@@ -1,13 +1,13 @@
 -- The words of a semigroup, and its generators as bits.
-use Rattle.std.proofs.Common.{◌≡◌, ◌≢◌, ℕ, zero, suc, ◌+◌, ◌-◌, ◌*◌, ◌/◌, ◌%◌, ◌^◌, ◌<◌, ◌≤◌, min, max, Bool, true, false, ◌&&◌, ◌==◌, List, [], ◌∷◌, ◌++◌, map, filter, length, bit_and, bit_or, nat_lt, lit<, refl, ap, ap₂, sym, subst, ◌∙◌, arith}
+use Rattle.std.proofs.Common.{◌≡◌, ◌≢◌, ℕ, ◌+◌, ◌-◌, ◌*◌, ◌/◌, ◌^◌, ◌<◌, ◌≤◌, min, max, Bool, true, false, ◌==◌, List, [], ◌∷◌, ◌++◌, filter, length, bit_and, bit_or, nat_lt, lit<, refl, ap, ap₂, sym, subst, ◌∙◌, arith}
 use Rattle.std.proofs.lemmas.Bool.Decides.{nat_tests}
 use Rattle.std.proofs.lemmas.List.{length_push}
 use Rattle.std.proofs.lemmas.Nat.{or_lt, and_le_l}
-use Rattle.std.proofs.lemmas.Nat.Bits.{bit_at-lt, bit_at_and, bit_at_or, bit_at_not, bit_at-zero, bit_at-pow_same, bit_at-pow_other, bit_at_above, bit_at_ones, bit_at_ones_above, same_from_bits_below}
+use Rattle.std.proofs.lemmas.Nat.Bits.{bit_at-lt, bit_at_and, bit_at_or, bit_at_not, bit_at-zero, bit_at-pow_same, bit_at-pow_other, bit_at_above, same_from_bits_below}
 use Rattle.std.specs.Int.{bit_at, bit_not, w128}
 use Rattle.std.specs.List.{range_with_len}
 use Rattle.yew_laws.specs.Sets.{contains}
-use Rattle.yew_semi.proofs.Bits.{bit_cases, filter-agree, filter-longer, filter-push, filter-pop, contains-filter, contains-after, bit_at-shifted}
+use Rattle.yew_semi.proofs.Bits.{bit_cases, filter-agree, filter-longer, filter-push, filter-pop, contains-filter, bit_at-shifted}
 use Rattle.yew_semi.specs.GapLaws.{bool_same, IsMinimal, minimal-from_test, test-from_minimal}
 use Rattle.yew_semi.specs.SemigroupLaws.{Known, generator-bound}
 use Rattle.yew_semi.specs.SemigroupTree.{is_generator, generators_above, without}

@@ -1,8 +1,8 @@
 -- Sets of gaps as facts: what the tests of ranges, lists and sets say.
-use Rattle.std.proofs.Common.{◌≡◌, ◌≢◌, ℕ, zero, suc, ◌+◌, ◌-◌, ◌*◌, ◌<◌, ◌≤◌, Bool, true, false, not, ◌&&◌, ◌||◌, ◌==◌, nat_lt, nat_le, List, [], ◌∷◌, ◌++◌, length, ◌⊎◌, inl, inr, refl, ap, ap₂, sym, ◌∙◌, arith}
+use Rattle.std.proofs.Common.{◌≡◌, ◌≢◌, ℕ, zero, suc, ◌+◌, ◌-◌, ◌<◌, ◌≤◌, Bool, true, false, not, ◌&&◌, ◌||◌, ◌==◌, nat_lt, List, [], ◌∷◌, ◌++◌, ◌⊎◌, inl, inr, refl, ap, sym, ◌∙◌, arith}
 use Rattle.std.proofs.lemmas.Bool.Decides.{nat_tests}
 use Rattle.std.specs.List.{list_all, list_any, range_with_len}
-use Rattle.yew_laws.specs.Sets.{contains, is_set, is_rising, are_within}
+use Rattle.yew_laws.specs.Sets.{contains}
 use Rattle.yew_semi.specs.Gaps.{is_sum_outside, is_gap_set}
 use Rattle.yew_semi.specs.SemigroupTree.{is_sum_of_members, is_generator}
 

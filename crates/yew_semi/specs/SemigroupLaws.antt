@@ -1,15 +1,15 @@
 -- A semigroup without a minimal generator above the Frobenius number is a semigroup, and each semigroup is made so from one other.
-use Rattle.std.proofs.Common.{◌≡◌, ◌≢◌, ℕ, zero, suc, ◌+◌, ◌-◌, ◌*◌, ◌<◌, ◌≤◌, ◌^◌, Bool, true, false, cond, ◌&&◌, nat_lt, if◌then◌else◌, List, [], ◌∷◌, ◌++◌, map, filter, length, refl, ap, sym, subst, ◌∙◌, ◌⊎◌, inl, inr, arith, length-append}
+use Rattle.std.proofs.Common.{◌≡◌, ℕ, zero, suc, ◌+◌, ◌-◌, ◌*◌, ◌<◌, ◌≤◌, ◌^◌, Bool, true, false, cond, nat_lt, if◌then◌else◌, List, [], ◌∷◌, map, filter, length, refl, subst, ◌∙◌, ◌⊎◌, inl, inr, arith}
 use Rattle.std.proofs.lemmas.Bool.Decides.{nat_tests}
 use Rattle.std.proofs.lemmas.List.{length_push, length-map}
 use Rattle.std.proofs.lemmas.List.FromFn.{length-range_with_len}
 use Rattle.std.specs.List.{AllByRecursion, range_with_len}
 use Rattle.yew_laws.specs.Sets.{contains}
-use Rattle.yew_laws.specs.Tree.{IsRanked, IsBounded, node_at}
+use Rattle.yew_laws.specs.Tree.{IsRanked, IsBounded}
 use Rattle.yew_semi.specs.GapBound.{gap-bound}
-use Rattle.yew_semi.specs.GapLaws.{IsClosed, closed-from_test, test-from_closed, IsMinimal, minimal-from_test, test-from_minimal, snoc-old, snoc-new, snoc-kept, snoc-cases, snoc-outside}
+use Rattle.yew_semi.specs.GapLaws.{IsClosed, closed-from_test, test-from_closed, IsMinimal, minimal-from_test, snoc-old, snoc-new, snoc-kept, snoc-cases, snoc-outside}
 use Rattle.yew_semi.specs.SemigroupTree.{is_generator, generators_above, without, children_of, rank_of, IsSemigroup}
-use Rattle.yew_semi.specs.SetLaws.{rises_from, rises-from_set, set-from_rises, rises-at, rises-below, RisesTo, snoc-rises, rises-snoc}
+use Rattle.yew_semi.specs.SetLaws.{rises_from, rises-from_set, set-from_rises, rises-below, snoc-rises, rises-snoc}
 
 zero_or : (a : ℕ) → (a ≡ 0) ⊎ (0 < a)
 zero_or zero = inl refl

@@ -1,4 +1,3 @@
-use Rattle.std.proofs.Common.{sym, subst}
 use Rattle.yew_semi.proofs.Words.{bits_of-zero}
 use Rattle.yew_semi.proofs.Roots.{root-words, root-inherited}
 use Rattle.yew_semi.proofs.semigroup.Semigroup.all.Goals as goal

@@ -1,11 +1,10 @@
-use Rattle.std.proofs.Common.{◌≡◌, ◌≢◌, ℕ, ◌+◌, ◌-◌, ◌*◌, ◌%◌, ◌^◌, ◌<◌, bit_and, bit_or, sym, subst, lit<, arith}
+use Rattle.std.proofs.Common.{◌+◌, ◌-◌, ◌*◌, ◌%◌, ◌^◌, ◌<◌, bit_and, bit_or, sym, subst, arith}
 use Rattle.std.proofs.lemmas.Nat.{or_lt, and_le_l, pow_pos}
 use Rattle.std.proofs.lemmas.Nat.Bits.{bit_at_set_same, bit_at_set_other, bit_at_clear_same, bit_at_clear_other}
 use Rattle.std.proofs.Math.Nat.{mod-lt}
-use Rattle.std.specs.Int.{bit_at, bit_not, w128}
-use Rattle.yew_semi.specs.GapLaws.{minimal-from_test, IsMinimal}
+use Rattle.std.specs.Int.{bit_not, w128}
+use Rattle.yew_semi.specs.GapLaws.{minimal-from_test}
 use Rattle.yew_semi.specs.Words.{bits_of, AreInherited}
-use Rattle.yew_semi.specs.SemigroupTree.{without}
 use Rattle.yew_semi.proofs.Words.{words-without, bits_of-push}
 use Rattle.yew_semi.proofs.semigroup.Words.child.Goals as goal
 
