@@ -67,7 +67,7 @@ impl Model for Generators {
 
 impl Semigroup {
     /// All whole numbers, of which 1 is the minimal generator.
-    pub fn all() -> Semigroup
+    pub(crate) fn all() -> Semigroup
         ensures { result ≡ [] }
     {
         Semigroup {
@@ -97,7 +97,7 @@ impl Semigroup {
     }
 
     /// The semigroups without one of the minimal generators above the Frobenius number, by rising generator.
-    pub fn generators(self) -> Generators
+    pub(crate) fn generators(self) -> Generators
         requires { IsSemigroup 40 self }
         ensures { result ≡ map (without self) (generators_above self) }
     {
@@ -117,7 +117,7 @@ impl Semigroup {
     }
 
     /// No children.
-    pub fn last(self) -> Generators
+    pub(crate) fn last(self) -> Generators
         ensures { result ≡ [] }
     {
         Generators {
@@ -129,7 +129,7 @@ impl Semigroup {
 
 impl Generators {
     /// The next child, by rising generator.
-    pub fn take(&mut self) -> Option<Semigroup>
+    pub(crate) fn take(&mut self) -> Option<Semigroup>
         requires { AllByRecursion (IsSemigroup 40) self.old }
         ensures { MatchOption result ((self.old ≡ []) × (self.new ≡ [])) (λ node. self.old ≡ node ∷ self.new) }
     {
