@@ -1,15 +1,15 @@
 -- A knapsack file is read, or refused for one reason.
-use Rattle.std.proofs.Common.{◌≡◌, ◌<◌, ◌≤◌, ◌^◌, ◌⊎◌, ℕ, List, length, Option, Some, None, refl, sym, ap, ap₂, subst, ◌∙◌, inl, inr, arith}
-use Rattle.std.specs.Prelude.{IfSome, IsSomeAnd}
+use Rattle.std.proofs.Common.{◌≡◌, ◌<◌, ◌≤◌, ◌^◌, ◌⊎◌, ℕ, List, length, Option, Some, None, refl, sym, ap, subst, ◌∙◌, inl, arith}
+use Rattle.std.specs.Prelude.{IfSome}
 use Rattle.std.proofs.lemmas.Option.{same_Some}
 use Rattle.yew_text.specs.declared.text.TextKind.{TextKind}
 use Rattle.yew_text.specs.Grammar.{Limited, first_past}
 use Rattle.yew_io.specs.Shelf.{File, bytes_of}
-use Rattle.yew_io.specs.Reading.{IsWhole, IsLonger}
+use Rattle.yew_io.specs.Reading.{IsWhole}
 use Rattle.yew_knap.specs.Instance.{Instance, IsWithinLimits}
 use Rattle.yew_knap.specs.Files.{IsKnapsackFile, IsKnapsackOffence, IsPastLimit, instance_limits, FileLaws}
 use Rattle.yew_app.specs.Refusals.{Reason, BadUsage, NotBuilt, CannotRead, NotInGrammar, TooLong, TooLarge, CannotWrite, NoMemory}
-use Rattle.yew_app.specs.Knapsacks.{IsRead, IsFine, RefusesBytes, IsRefused}
+use Rattle.yew_app.specs.Knapsacks.{IsFine, RefusesBytes, IsRefused}
 
 -- what was found out about a file: it is too long, has an offence, is past a limit, or is read
 pub data Finding (name bytes : List ℕ) : Type 0 where

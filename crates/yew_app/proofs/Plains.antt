@@ -5,7 +5,6 @@ use Rattle.yew_words.specs.declared.plan.Plan.{Plan}
 use Rattle.yew_words.specs.declared.plan.Usage.{Usage}
 use Rattle.yew_words.specs.declared.plan.UsageKind.{UsageKind}
 use Rattle.yew_words.specs.declared.plan.UsageKind.TheVariants.{NotHere}
-use Rattle.yew_words.specs.declared.plan.Skeleton.{Skeleton}
 use Rattle.yew_words.specs.declared.plan.Skeleton.TheVariants.{Sequential}
 use Rattle.yew_words.specs.Word.{Word}
 use Rattle.yew_words.specs.Plans.{Planned, planned, PlanOf}

@@ -3,3 +3,4 @@ pub mod Outcomes
 pub mod Reasons
 pub mod Refusals
 pub mod Runs
+pub mod Semigroups

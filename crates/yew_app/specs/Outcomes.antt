@@ -1,12 +1,12 @@
 -- What a run leaves outside: the texts that it wrote, and its status.
-use Rattle.std.specs.Prelude.{◌≡◌, ◌≢◌, ◌≤◌, ◌⊎◌, ℕ, List, Bool, true, Option, Some, IfSome}
+use Rattle.std.specs.Prelude.{◌≡◌, ◌⊎◌, ℕ, List, Bool, true, Option, Some, IfSome}
 use Rattle.yew_words.specs.Word.{Word}
 use Rattle.yew_io.specs.Faults.{Rose}
 use Rattle.yew_io.specs.Shelf.{File}
 use Rattle.yew_io.specs.Sink.{Appends, AppendsPrefix}
 use Rattle.yew_io.specs.declared.shelf.Shelf as shelf_trait
 use Rattle.yew_io.specs.declared.sink.Sink as sink_trait
-use Rattle.yew_app.specs.Refusals.{Reason, CannotRead, CannotWrite, NoMemory, fault_line, status_of}
+use Rattle.yew_app.specs.Refusals.{Reason, CannotRead, CannotWrite, fault_line, status_of}
 use Rattle.yew_app.specs.Runs.{Answers, RefusesWords, RefusesFiles, IsFine, IsCause}
 
 -- the world outside at one moment: the shelf of files, the sink of the answer, and the sink of faults

@@ -1,9 +1,8 @@
 -- What a run does: which text it writes, and why it does not.
-use Rattle.std.specs.Prelude.{◌≡◌, ◌≢◌, ℕ, ◌⊎◌, List, [], ◌∷◌, Option, IfSome, Contains, Bool, false, IsTrue, IsFalse, Some}
+use Rattle.std.specs.Prelude.{◌≡◌, ◌≢◌, ℕ, ◌⊎◌, List, [], ◌∷◌, Option, IfSome, Contains, IsFalse}
 use Rattle.yew_words.specs.declared.plan.Job.{Job}
 use Rattle.yew_words.specs.declared.plan.Job.TheVariants as jobs
 use Rattle.yew_words.specs.declared.plan.Skeleton.TheVariants.{Sequential}
-use Rattle.yew_words.specs.declared.plan.UsageKind.{UsageKind}
 use Rattle.yew_words.specs.declared.plan.UsageKind.TheVariants.{NotHere}
 use Rattle.yew_words.specs.Word.{Word}
 use Rattle.yew_words.specs.Plans.{Planned, PlanOf}
@@ -11,10 +10,12 @@ use Rattle.yew_words.specs.Offences.{Offending}
 use Rattle.yew_io.specs.Shelf.{File}
 use Rattle.yew_app.specs.Refusals.{Reason, BadUsage, NotBuilt, CannotRead, NotInGrammar, TooLong, TooLarge, CannotWrite, NoMemory}
 use Rattle.yew_app.specs.Knapsacks as knapsacks
+use Rattle.yew_app.specs.Semigroups.{IsCountsText}
 
 -- the parts that are there: the jobs that are answered, without a report and an audit
 abbrev pub IsBuiltJob : Job → Type 0
 IsBuiltJob jobs.Knapsack = Unit {0}
+IsBuiltJob jobs.Semigroups = Unit {0}
 IsBuiltJob _ = ⊥
 
 pub record IsBuilt (plan : Planned) : Type 0 where
@@ -48,9 +49,15 @@ RefusesWords words NotBuilt = HasUnbuilt words
 RefusesWords words _ = ⊥
 
 -- the text is a right answer to a plan over these files
-abbrev pub IsAnsweredFor : Job → Option ℕ → List Word → List File → List ℕ → Type 0
-IsAnsweredFor jobs.Knapsack target (name ∷ []) told text = knapsacks.IsAnswered told name target text
-IsAnsweredFor _ target files told text = ⊥
+abbrev pub IsAnsweredFor : Job → Option ℕ → ℕ → List Word → List File → List ℕ → Type 0
+IsAnsweredFor jobs.Knapsack target genus (name ∷ []) told text = knapsacks.IsAnswered told name target text
+IsAnsweredFor jobs.Semigroups target genus [] told text = IsCountsText genus text
+IsAnsweredFor _ target genus files told text = ⊥
+
+-- what is so of the text whatever the files are: it is right where the plan has none
+abbrev pub IsRightFor : Job → ℕ → List ℕ → Type 0
+IsRightFor jobs.Semigroups genus text = IsCountsText genus text
+IsRightFor _ genus text = Unit {0}
 
 -- why the files of a plan are refused
 abbrev pub RefusesFilesFor : Job → List Word → List File → Reason → Type 0
@@ -60,13 +67,15 @@ RefusesFilesFor _ files told reason = ⊥
 -- nothing is wrong with the files of a plan
 abbrev pub AreFineFor : Job → List Word → List File → Type 0
 AreFineFor jobs.Knapsack (name ∷ []) told = knapsacks.IsFine told name
+AreFineFor jobs.Semigroups [] told = Unit {0}
 AreFineFor _ files told = ⊥
 
--- The text is a right answer to what the words ask for: they have a plan, and where the shelf tells its files, the text is right for them.
+-- The text is a right answer to what the words ask for: they have a plan, and where the shelf tells its files, the text is right for them. Where the plan has no files it is right in any case.
 pub record Answers (words : List Word) (files : Option (List File)) (text : List ℕ) : Type 0 where
   pub plan : Planned
   pub plain : IsPlain words plan
-  pub right : IfSome files (λ told. IsAnsweredFor plan.job plan.target plan.files told text)
+  pub right : IfSome files (λ told. IsAnsweredFor plan.job plan.target plan.genus plan.files told text)
+  pub right_counts : IsRightFor plan.job plan.genus text
 
 -- The words have a plan, and its files are refused for this reason.
 pub record RefusesFiles (words : List Word) (told : List File) (reason : Reason) : Type 0 where

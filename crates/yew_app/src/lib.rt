@@ -10,6 +10,7 @@ mod plan;
 mod reading;
 mod refusal;
 mod run;
+mod semigroups;
 #[cfg(test)]
 mod tests;
 

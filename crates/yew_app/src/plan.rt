@@ -1,6 +1,7 @@
 //! The plan of the words, where one worker can do it and its parts are there.
 
 ghost use Rattle.std.specs.Prelude.{◌≡◌, ◌↔◌, ◌∷◌, [], IsTrue, IfOk, IfErr, IsErrAnd};
+ghost use Rattle.yew_words.specs.declared.plan.Job.TheVariants as jobs;
 ghost use Rattle.yew_words.specs.Word.{texts};
 ghost use Rattle.yew_words.specs.Plans.{Planned, planned, PlanOf};
 ghost use Rattle.yew_words.specs.Ranges.{IsWithin};
@@ -16,8 +17,8 @@ fn is_built(plan: &Plan) -> bool
     ensures { IsTrue result ↔ IsBuilt (planned plan.now) }
 {
     match plan.job {
-        Job::Knapsack => !plan.report && !plan.audit,
-        Job::Tsp | Job::Subgraph | Job::Semigroups | Job::Make(_) => false,
+        Job::Knapsack | Job::Semigroups => !plan.report && !plan.audit,
+        Job::Tsp | Job::Subgraph | Job::Make(_) => false,
     }
 }
 
@@ -52,7 +53,7 @@ pub(crate) fn read_plain<'a>(words: &'a [String]) -> Result<Plan<'a>, Refusal<'a
 
 /// The name of the only file of a plan for a knapsack.
 pub(crate) fn only_file<'a>(plan: &Plan<'a>) -> &'a str
-    requires built { IsBuilt (planned plan.now) }
+    requires job { plan.now.job ≡ jobs.Knapsack }
     requires within { IsWithin (planned plan.now) }
     ensures { texts plan.now.files.now ≡ result.now ∷ [] }
 {

@@ -3,6 +3,8 @@
 ghost use Rattle.std.specs.Prelude.{◌≡◌, ◌≢◌, ◌≤◌, ◌⊎◌, ◌^◌, true, List, ℕ, IfSome, IfOk, IfErr, IsErrAnd, IsOk, Some};
 ghost use Rattle.yew_io.specs.Faults.{Rose};
 ghost use Rattle.yew_words.specs.Word.{texts};
+ghost use Rattle.std.specs.Option.{ForSome};
+ghost use Rattle.yew_app.specs.Knapsacks as knapsacks;
 ghost use Rattle.yew_app.specs.Reasons.{reason_of};
 ghost use Rattle.yew_io.specs.Sink.{Appends, AppendsPrefix};
 ghost use Rattle.yew_app.specs.Refusals.{Reason, CannotRead, NoMemory, fault_line, status_of};
@@ -13,8 +15,39 @@ use crate::knapsack::knapsack_text;
 use crate::plan::{only_file, read_plain};
 use crate::reading::read_knapsack;
 use crate::refusal::{Refusal, write_fault_line};
+use crate::semigroups::semigroups_text;
 use std::alloc::Global;
 use yew_io::{Failed, Shelf, Sink, write_whole};
+use yew_words::Job;
+
+/// The whole text of the answer to the knapsack file of that name, or why there is none.
+fn solve_knapsack<'a, S: Shelf<'a>>(
+    alloc: Global,
+    shelf: &mut S,
+    name: &'a str,
+    target: Option<u64>,
+) -> Result<Vec<u8>, Refusal<'a>>
+    requires { ForSome target (λ least. least ≤ 1099511627774) }
+    ensures answers { IfOk result (λ text. IfSome (S.files shelf.old) (λ told. knapsacks.IsAnswered told name.now target text.items)) }
+    ensures refused { IfErr result (λ refusal. knapsacks.IsReason (S.files shelf.old) name.now (reason_of refusal)) }
+    ensures cause { IsErrAnd result (λ refusal. reason_of refusal ≡ CannotRead name.now) → Rose (S.faults shelf.old) (S.faults shelf.new) × (S.failed shelf.new ≡ true) }
+    ensures each_reason { ¬ Rose (S.faults shelf.old) (S.faults shelf.new) → IfSome (S.files shelf.old) (λ told.
+        (reason : Reason) → knapsacks.IsRefused told name.now reason → IsErrAnd result (λ refusal. (reason_of refusal ≡ reason) ⊎ (reason_of refusal ≡ NoMemory))) }
+    ensures fine { ¬ Rose (S.faults shelf.old) (S.faults shelf.new) → IfSome (S.files shelf.old) (λ told.
+        knapsacks.IsFine told name.now → IsOk result ⊎ IsErrAnd result (λ refusal. reason_of refusal ≡ NoMemory)) }
+    ensures name { S.name shelf.new ≡ Some name.now }
+    ensures files { S.files shelf.new ≡ S.files shelf.old }
+    ensures counted { S.faults shelf.old ≤ S.faults shelf.new }
+{
+    let problem = match read_knapsack(alloc, shelf, name) {
+        Ok(problem) => problem,
+        Err(refusal) => return Err(refusal),
+    };
+    match knapsack_text(alloc, &problem, target) {
+        Ok(text) => Ok(text),
+        Err(_) => Err(Refusal::Memory),
+    }
+}
 
 /// The whole text that the words ask for, or why there is none.
 fn text_of<'a, S: Shelf<'a>>(
@@ -38,14 +71,16 @@ fn text_of<'a, S: Shelf<'a>>(
         Ok(plan) => plan,
         Err(refusal) => return Err(refusal),
     };
-    let name = only_file(&plan);
-    let problem = match read_knapsack(alloc, shelf, name) {
-        Ok(problem) => problem,
-        Err(refusal) => return Err(refusal),
-    };
-    match knapsack_text(alloc, &problem, plan.target) {
-        Ok(text) => Ok(text),
-        Err(_) => Err(Refusal::Memory),
+    match plan.job {
+        Job::Knapsack => match solve_knapsack(alloc, shelf, only_file(&plan), plan.target) {
+            Ok(text) => Ok(text),
+            Err(refusal) => Err(refusal),
+        },
+        Job::Semigroups => match semigroups_text(alloc, plan.genus) {
+            Ok(text) => Ok(text),
+            Err(_) => Err(Refusal::Memory),
+        },
+        Job::Tsp | Job::Subgraph | Job::Make(_) => unreachable!(),
     }
 }
 

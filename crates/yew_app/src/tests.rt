@@ -170,7 +170,26 @@ fn answers_and_refusals(rt: HostRuntime) -> Result<(), Fail> {
         ("knapsack steal k1", 1, "", "yew: word 2: not here\n"),
         ("", 1, "", "yew: word 1: missing\n"),
         ("knapsack sequential k1 --report", 1, "", "yew: not built\n"),
-        ("semigroups sequential --genus 3", 1, "", "yew: not built\n"),
+        ("tsp sequential k1", 1, "", "yew: not built\n"),
+        (
+            "semigroups sequential --genus 3 --report",
+            1,
+            "",
+            "yew: not built\n",
+        ),
+        ("semigroups sequential --genus 0", 0, "0 1\n", ""),
+        (
+            "semigroups sequential --genus 10",
+            0,
+            "0 1\n1 1\n2 2\n3 4\n4 7\n5 12\n6 23\n7 39\n8 67\n9 118\n10 204\n",
+            "",
+        ),
+        (
+            "semigroups sequential --genus 41",
+            1,
+            "",
+            "yew: word 4: out of range\n",
+        ),
     ] {
         let ended = run(alloc, words, &files, CALM)?;
         assert_eq!(rt; ended.status, status, "{words}");
@@ -393,6 +412,27 @@ fn limits(rt: HostRuntime) -> Result<(), Fail> {
         ended.err.as_slice(),
         b"yew: f: longer than 16777216 bytes\n".as_slice()
     );
+    Ok(())
+}
+
+/// The numbers of numerical semigroups of genus 0 to 22 (The On-Line Encyclopedia of Integer Sequences, A007323).
+#[test]
+fn semigroups_by_genus(rt: HostRuntime) -> Result<(), Fail> {
+    let alloc = rt.alloc();
+    let counts = [
+        1, 1, 2, 4, 7, 12, 23, 39, 67, 118, 204, 343, 592, 1001, 1693, 2857, 4806, 8045, 13467,
+        22464, 37396, 62194, 103246,
+    ];
+    let mut text = Vec::new(alloc);
+    for (genus, count) in counts.iter().enumerate() {
+        push_number(&mut text, genus as u64)?;
+        push_spaced(&mut text, *count)?;
+        push_line_end(&mut text)?;
+    }
+    let ended = run(alloc, "semigroups sequential --genus 22", &[], CALM)?;
+    assert_eq!(rt; ended.status, 0);
+    assert_eq!(rt; ended.out.as_slice(), text.as_slice());
+    assert!(rt; ended.err.is_empty());
     Ok(())
 }
 

@@ -1,4 +1,4 @@
-use Rattle.std.proofs.Common.{◌≡◌, ◌+◌, ◌≤◌, ◌⊎◌, ℕ, List, Option, Some, None, Result, Ok, Err, IfOk, Bor, subst, sym, ◌∙◌}
+use Rattle.std.proofs.Common.{◌≡◌, ◌+◌, ◌≤◌, ℕ, Option, Some, Result, Ok, Err, IfOk, Bor, subst}
 use Rattle.std.specs.Prelude.{IfSome, IsSomeAnd, Vec}
 use Rattle.std.specs.declared.alloc.Global.{Global}
 use Rattle.std.proofs.lemmas.Option.{same_Some}
@@ -9,7 +9,6 @@ use Rattle.yew_knap.specs.declared.nodes.KnapNode.{KnapNode}
 use Rattle.yew_knap.specs.Answers.{knapsack_tree}
 use Rattle.yew_knap.specs.Nodes.{IsNode, worth_of}
 use Rattle.yew_knap.specs.NodeLaws.{knapsack-ranked}
-use Rattle.yew_knap.specs.Texts.{IsYesText, IsNoText}
 use Rattle.yew_knap.proofs.Packs.{member-sound}
 use Rattle.yew_walk.specs.Answers.{IsReached}
 use Rattle.yew_walk.proofs.Bests.{rebuilt-worth}

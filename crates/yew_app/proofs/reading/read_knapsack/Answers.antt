@@ -1,4 +1,4 @@
-use Rattle.std.proofs.Common.{rules, ◌≡◌, ◌≤◌, ◌^◌, ◌⊎◌, ℕ, length, false, true, refl, arith}
+use Rattle.std.proofs.Common.{rules, ◌≡◌, ◌≤◌, ◌^◌, ◌⊎◌, length, false, true, refl}
 use Rattle.yew_knap.specs.Files.{IsKnapsackFile, IsKnapsackOffence, IsPastLimit}
 use Rattle.yew_app.specs.Refusals.{NotInGrammar, TooLarge, NoMemory}
 use Rattle.yew_app.proofs.KnapsackFiles.{told_none, told_only, told_not_fine, is_faulty, is_past}

@@ -1,10 +1,9 @@
-use Rattle.std.proofs.Common.{◌≡◌, ◌⊎◌, ℕ, List, refl, subst, sym, ap, ◌∙◌, inl, inr, ⊎_elim}
-use Rattle.yew_io.specs.Shelf.{File}
+use Rattle.std.proofs.Common.{◌≡◌, ◌⊎◌, refl, subst, ap, ◌∙◌, inl, inr, ⊎_elim}
 use Rattle.yew_words.specs.Word.{texts}
 use Rattle.yew_app.specs.Reasons.{reason_of}
 use Rattle.yew_app.specs.Refusals.{Reason, NoMemory, CannotWrite, status_of}
 use Rattle.yew_app.specs.Runs.{RefusesFiles}
-use Rattle.yew_app.specs.Outcomes.{Outside, outside, Says}
+use Rattle.yew_app.specs.Outcomes.{outside, Says}
 use Rattle.yew_app.proofs.Causes.{has-cause}
 use Rattle.yew_app.proofs.Serving.{map_told}
 use Rattle.yew_app.proofs.run.run_plain.Goals as goal
