@@ -1,0 +1,21 @@
+mod Children
+mod Counts
+mod Dimensions
+mod FileGrammar
+mod FileLaws
+mod FileReader
+mod HeaderLines
+mod HeaderParts
+mod HeaderSteps
+mod Kept
+mod KeyValues
+mod Least
+mod Lowest
+mod MatrixWords
+mod NumberSteps
+mod Paths
+mod Places
+mod Rights
+pub mod TreeIs
+mod Weights
+mod WithinLimits

@@ -1,0 +1,15 @@
+pub mod Answers
+pub mod Bits
+pub mod BoundLaws
+pub mod FileReading
+pub mod Files
+pub mod Headers
+pub mod Instance
+pub mod Keys
+pub mod Lists
+pub mod Matrices
+pub mod NodeLaws
+pub mod Nodes
+pub mod Reading
+pub mod Routes
+pub mod Texts

@@ -1,0 +1,56 @@
+//! The nodes of the tree of lists of cities.
+
+ghost use Rattle.std.specs.Prelude.{◌≡◌, ◌<◌, ◌≤◌, length};
+
+/// A list of different cities that begins with city 1, and what is known of the tours that begin with it.
+#[derive(Clone, Copy, Debug, PartialEq, Eq)]
+pub struct TourNode {
+    /// The cities before the last one in order, numbered from 1. What stands behind them has no meaning.
+    pub(crate) cities: [u8; 60],
+    /// How many steps were taken: how many cities stand before the last one.
+    pub(crate) steps: u8,
+    /// The last city. It is written behind the others only where the node is opened: most children are cut off.
+    pub(crate) last: u8,
+    /// Bit c is set where city c is not in the list.
+    pub(crate) unvisited: u64,
+    /// The length so far, and for each city from which no step was taken the least weight from it to another city.
+    pub(crate) lower: u64,
+}
+
+impl TourNode {
+    ghost use Rattle.yew_tsp.specs.Nodes.{start_at, written};
+
+    /// City 1 alone, where the least weights from all cities have this sum.
+    pub(crate) fn root(cities: usize, lower: u64) -> TourNode
+        requires { (1 ≤ cities) × (cities ≤ 60) }
+        ensures { result ≡ start_at cities lower }
+    {
+        TourNode {
+            cities: [0; 60],
+            steps: 0,
+            last: 1,
+            // Bits 2 to the number of cities.
+            unvisited: (1u64 << (cities + 1)) - 4,
+            lower,
+        }
+    }
+
+    /// The node with its last city written behind the others.
+    #[inline]
+    pub(crate) fn write(mut self) -> TourNode
+        requires { self.steps < 60 }
+        ensures { result ≡ written self }
+    {
+        self.cities[self.steps as usize] = self.last;
+        self
+    }
+}
+
+/// The lists with one more city that are still to come: the list without it, which is written out, and the cities to
+/// try.
+#[derive(Clone, Copy, Debug, PartialEq, Eq)]
+pub struct TourKids {
+    pub(crate) parent: TourNode,
+    /// Bit c is set where city c is still to be tried.
+    pub(crate) left: u64,
+}
