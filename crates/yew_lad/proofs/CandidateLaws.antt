@@ -1,0 +1,190 @@
+-- The bits of the candidates for a vertex, from those of the tables.
+use Rattle.std.proofs.Common.{◌≡◌, ℕ, zero, suc, ◌+◌, ◌-◌, ◌*◌, ◌%◌, ◌^◌, ◌<◌, ◌≤◌, Bool, true, false, not, ◌&&◌, ◌||◌, ◌==◌, cond, List, [], ◌∷◌, length, nat_lt, slice_index, bit_and, refl, ap, ap₂, sym, ◌∙◌, inl, inr, arith}
+use Rattle.std.specs.Int.{bit_at}
+use Rattle.std.specs.List.{AllByRecursion, filter, list_all, range_with_len}
+use Rattle.std.proofs.Math.Nat.{mod-eq_of_lt}
+use Rattle.std.proofs.Math.Pow.{pow-lt}
+use Rattle.std.proofs.lemmas.Bool.{cases_lt, lt-ltb, le-ltb}
+use Rattle.std.proofs.lemmas.Nat.Bits.{bit_at_and, bit_at_ones, bit_at_ones_above}
+use Rattle.yew_laws.specs.Sets.{contains}
+use Rattle.yew_lad.specs.Bits.{BitTable, in_row, AreBits}
+use Rattle.yew_lad.specs.Candidates.{ArePlaces, places_in}
+use Rattle.yew_lad.specs.Digraphs.{GraphPair, vertex_count, is_arc}
+use Rattle.yew_lad.specs.Nodes.{vertex_at, has_room, keeps_all, is_candidate, with_image, AreNext, IsNode}
+use Rattle.yew_lad.specs.SearchedOrder.{profile_of}
+use Rattle.yew_lad.specs.Tables.{HasTest}
+use Rattle.yew_lad.proofs.Orders.{each-at}
+use Rattle.yew_lad.proofs.PlaceLaws.{bits_both}
+
+-- the images of a node are vertices of the target
+images-below-from : (pair : GraphPair) (before images : List ℕ) → AreNext pair before images → AllByRecursion (λ t. t < vertex_count pair.target) images
+images-below-from pair before [] a = tt
+images-below-from pair before (t ∷ ts) a = (a.0.vertex, images-below-from pair (with_image before t) ts a.1)
+
+pub image-below : (pair : GraphPair) (images : List ℕ) → IsNode pair images → (place : ℕ) → place < length images → slice_index images place < vertex_count pair.target
+image-below pair images sound place l = each-at (λ t. t < vertex_count pair.target) images place 0 (images-below-from pair [] images sound.chosen) l
+
+-- the places below a count: the ones of a word
+pub mask-is : (count k : ℕ) → k < 64 → (bit_at (2 ^ count - 1) k == 1) ≡ nat_lt k count
+mask-is count k l =
+    elim (cases_lt k count) [
+      | inl less ↦ ap (λ n. n == 1) (bit_at_ones count k less) ∙ sym (lt-ltb k count less)
+      | inr more ↦ ap (λ n. n == 1) (bit_at_ones_above count k more) ∙ sym (le-ltb k count more)
+    ]
+
+-- the word of the places below a count, as it is computed
+pub mask-word : (n count : ℕ) → n ≡ count → count < 64 → 1 * 2 ^ n % 2 ^ 64 - 1 ≡ 2 ^ count - 1
+mask-word n count is l =
+    let low : 1 * 2 ^ count < 2 ^ 64 = omega (arith, pow-lt l) in
+    ap (λ k. 1 * 2 ^ k % 2 ^ 64 - 1) is ∙ ap (λ k. k - 1) (mod-eq_of_lt low ∙ omega arith)
+
+-- the bits of the one word of a row of places
+pub places-row : (rows : ℕ) (test : ℕ → ℕ → Bool) (table : BitTable) → HasTest rows 1 test table → (place : ℕ) → place < rows → (word : ℕ) → AreBits word (λ k. in_row table place (64 * 0 + k)) → AreBits word (test place)
+places-row rows test table has place l word bits k small =
+    let here : 64 * 0 + k ≡ k = omega arith in
+    bits k small ∙ has.bits place (64 * 0 + k) l (omega arith) ∙ ap (test place) here
+
+-- ---- all places that pass
+
+all-picked : (b p : ℕ → Bool) (low n : ℕ) → list_all b (filter p (range_with_len low n)) ≡ list_all (λ q. not (p q) || b q) (range_with_len low n)
+all-picked b p low zero = refl
+all-picked b p low (suc n) =
+    pick (p low) (b low) (filter p (range_with_len (low + 1) n))
+    ∙ ap (λ c. (not (p low) || b low) && c) (all-picked b p (low + 1) n)
+  where
+    pick : (c d : Bool) (xs : List ℕ) → list_all b (cond c (low ∷ xs) xs) ≡ ((not c || b low) && list_all b xs)
+    pick true d xs = refl
+    pick false d xs = refl
+
+all-agree : (f g : ℕ → Bool) (low n : ℕ) → ((q : ℕ) → low ≤ q → q < low + n → f q ≡ g q) → list_all f (range_with_len low n) ≡ list_all g (range_with_len low n)
+all-agree f g low zero h = refl
+all-agree f g low (suc n) h = ap₂ (λ a b. a && b) (h low (omega arith) (omega arith)) (all-agree f g (low + 1) n (λ q a b. h q (omega arith) (omega arith)))
+
+all-true : (f : ℕ → Bool) (low n : ℕ) → ((q : ℕ) → low ≤ q → f q ≡ true) → list_all f (range_with_len low n) ≡ true
+all-true f low zero h = refl
+all-true f low (suc n) h = ap₂ (λ a b. a && b) (h low (omega arith)) (all-true f (low + 1) n (λ q a. h q (omega arith)))
+
+all-shorter : (f : ℕ → Bool) (low n m : ℕ) → ((q : ℕ) → low + n ≤ q → f q ≡ true) → list_all f (range_with_len low (n + m)) ≡ list_all f (range_with_len low n)
+all-shorter f low zero m h =
+    let same : 0 + m ≡ m = omega arith in
+    ap (λ k. list_all f (range_with_len low k)) same ∙ all-true f low m (λ q a. h q (omega arith))
+all-shorter f low (suc n) m h =
+    let same : suc n + m ≡ suc (n + m) = omega arith in
+    ap (λ k. list_all f (range_with_len low k)) same ∙ ap (λ b. f low && b) (all-shorter f (low + 1) n m (λ q a. h q (omega arith)))
+
+all-both : (f g : ℕ → Bool) (low n : ℕ) → list_all (λ q. f q && g q) (range_with_len low n) ≡ (list_all f (range_with_len low n) && list_all g (range_with_len low n))
+all-both f g low zero = refl
+all-both f g low (suc n) = ap (λ b. (f low && g low) && b) (all-both f g (low + 1) n) ∙ turn (f low) (g low) (list_all f (range_with_len (low + 1) n)) (list_all g (range_with_len (low + 1) n))
+  where
+    turn : (a b c d : Bool) → ((a && b) && (c && d)) ≡ ((a && c) && (b && d))
+    turn a b c d = grind arith
+
+-- a test of the places in a word that are mapped and have an arc
+pub kept-places : (word count : ℕ) (arc row kept : ℕ → Bool) → count ≤ 64 → ((q : ℕ) → q < 64 → (bit_at word q == 1) ≡ (nat_lt q count && arc q)) → ((q : ℕ) → q < count → row q ≡ kept q) → list_all row (places_in word) ≡ list_all (λ q. not (arc q) || kept q) (range_with_len 0 count)
+kept-places word count arc row kept few bits agree =
+    let long : count + (64 - count) ≡ 64 = omega arith in
+    all-picked row (λ q. bit_at word q == 1) 0 64
+    ∙ all-agree (λ q. not (bit_at word q == 1) || row q) (λ q. not (nat_lt q count && arc q) || kept q) 0 64 (λ q a b. one q (omega arith))
+    ∙ ap (λ n. list_all (λ q. not (nat_lt q count && arc q) || kept q) (range_with_len 0 n)) (sym long)
+    ∙ all-shorter (λ q. not (nat_lt q count && arc q) || kept q) 0 count (64 - count) (λ q a. let l : count ≤ q = omega arith in past q (arc q) (kept q) (le-ltb q count l))
+    ∙ all-agree (λ q. not (nat_lt q count && arc q) || kept q) (λ q. not (arc q) || kept q) 0 count (λ q a b. let l : q < count = omega arith in here q (arc q) (kept q) (lt-ltb q count l))
+  where
+    past : (q : ℕ) (a b : Bool) → nat_lt q count ≡ false → (not (nat_lt q count && a) || b) ≡ true
+    past q a b e = ap (λ c. not (c && a) || b) e
+
+    here : (q : ℕ) (a b : Bool) → nat_lt q count ≡ true → (not (nat_lt q count && a) || b) ≡ (not a || b)
+    here q a b e = ap (λ c. not (c && a) || b) e
+
+    one : (q : ℕ) → q < 64 → (not (bit_at word q == 1) || row q) ≡ (not (nat_lt q count && arc q) || kept q)
+    one q l =
+        ap (λ c. not c || row q) (bits q l)
+        ∙ elim (cases_lt q count) [
+          | inl less ↦ ap (λ c. not (nat_lt q count && arc q) || c) (agree q less)
+          | inr more ↦ ap (λ c. not (c && arc q) || row q) (le-ltb q count more) ∙ sym (ap (λ c. not (c && arc q) || kept q) (le-ltb q count more))
+        ]
+
+-- ---- one candidate
+
+module _ (pair : GraphPair) (images : List ℕ) (sound : IsNode pair images) (place : ℕ) (later : length images ≤ place) (within : place < vertex_count pair.pattern) where
+  abbrev count : ℕ
+  count = length images
+
+  pub count-small : count < 64
+  count-small = let few = sound.limits.pattern in omega arith
+
+  -- the places in a word of a table and among those that are mapped
+  pub mapped-bits : (row : ℕ) (arc : ℕ → Bool) → AreBits row (λ q. nat_lt q place && arc q) → (q : ℕ) → q < 64 → (bit_at (bit_and row (2 ^ count - 1)) q == 1) ≡ (nat_lt q count && arc q)
+  mapped-bits row arc bits q l =
+      bits_both row (2 ^ count - 1) q
+      ∙ ap₂ (λ a b. a && b) (bits q l) (mask-is count q l)
+      ∙ elim (cases_lt q count) [
+        | inl less ↦
+            let before : q < place = omega arith in
+            ap₂ (λ a b. (a && arc q) && b) (lt-ltb q place before) (lt-ltb q count less) ∙ both (arc q) ∙ sym (ap (λ a. a && arc q) (lt-ltb q count less))
+        | inr more ↦ ap (λ b. (nat_lt q place && arc q) && b) (le-ltb q count more) ∙ none (nat_lt q place && arc q) ∙ sym (ap (λ a. a && arc q) (le-ltb q count more))
+      ]
+    where
+      both : (a : Bool) → ((true && a) && true) ≡ (true && a)
+      both a = grind arith
+
+      none : (a : Bool) → (a && false) ≡ false
+      none a = grind arith
+
+  pub are-places : (rows row : ℕ) (arc : ℕ → Bool) → rows ≡ vertex_count pair.target → AreBits row (λ q. nat_lt q place && arc q) → ArePlaces rows images (bit_and row (2 ^ count - 1))
+  are-places rows row arc size bits = record {
+    mapped = λ q e. in_count q e;
+    rows_are = λ q e. let l = image-below pair images sound q (in_count q e) in omega (arith, l, size);
+  }
+    where
+      in_count : (q : ℕ) → bit_at (bit_and row (2 ^ count - 1)) q ≡ 1 → q < count
+      in_count q e =
+          elim (cases_lt q count) [
+            | inl less ↦ less
+            | inr more ↦
+                let both = bit_at_and row (2 ^ count - 1) q in
+                let none = bit_at_ones_above count q more in
+                absurd (omega (arith, both, none, e))
+          ]
+
+  module _ (t : ℕ) where
+    abbrev arcs_in : ℕ → Bool
+    arcs_in q = is_arc pair.pattern (vertex_at pair q) (vertex_at pair place)
+
+    abbrev arcs_out : ℕ → Bool
+    arcs_out q = is_arc pair.pattern (vertex_at pair place) (vertex_at pair q)
+
+    -- the bit of a target vertex that has room, is unused and keeps the arcs of both kinds
+    pub candidate-is : (room free kept all : Bool) (from to : ℕ) (successors predecessors : BitTable)
+        → free ≡ (room && not (contains images t))
+        → room ≡ (nat_lt t (vertex_count pair.target) && has_room (profile_of pair.pattern (vertex_at pair place)) (profile_of pair.target t))
+        → kept ≡ (free && list_all (λ q. in_row successors (slice_index images q) t) (places_in from))
+        → all ≡ (kept && list_all (λ q. in_row predecessors (slice_index images q) t) (places_in to))
+        → ((q : ℕ) → q < 64 → (bit_at from q == 1) ≡ (nat_lt q count && arcs_in q))
+        → ((q : ℕ) → q < 64 → (bit_at to q == 1) ≡ (nat_lt q count && arcs_out q))
+        → ((q : ℕ) → q < count → t < vertex_count pair.target → in_row successors (slice_index images q) t ≡ is_arc pair.target (slice_index images q) t)
+        → ((q : ℕ) → q < count → t < vertex_count pair.target → in_row predecessors (slice_index images q) t ≡ is_arc pair.target t (slice_index images q))
+        → all ≡ (nat_lt t (vertex_count pair.target) && is_candidate pair images (vertex_at pair place) t)
+    unfolding is_candidate
+    candidate-is room free kept all from to successors predecessors free_is room_is kept_is all_is from_are to_are succ pred =
+        elim (cases_lt t (vertex_count pair.target)) [
+          | inl less ↦
+              all_is ∙ ap₂ (λ a b. a && b) (kept_is ∙ ap₂ (λ a b. a && b) (free_is ∙ ap (λ a. a && not (contains images t)) (room_is ∙ ap (λ a. a && has_room (profile_of pair.pattern (vertex_at pair place)) (profile_of pair.target t)) (lt-ltb t (vertex_count pair.target) less)))
+              (kept-places from count arcs_in (λ q. in_row successors (slice_index images q) t) (λ q. is_arc pair.target (slice_index images q) t) few from_are (λ q l. succ q l less)))
+              (kept-places to count arcs_out (λ q. in_row predecessors (slice_index images q) t) (λ q. is_arc pair.target t (slice_index images q)) few to_are (λ q l. pred q l less))
+              ∙ turn (has_room (profile_of pair.pattern (vertex_at pair place)) (profile_of pair.target t)) (not (contains images t)) (list_all (λ q. not (arcs_in q) || is_arc pair.target (slice_index images q) t) (range_with_len 0 count)) (list_all (λ q. not (arcs_out q) || is_arc pair.target t (slice_index images q)) (range_with_len 0 count))
+              ∙ ap (λ b. true && ((not (contains images t) && has_room (profile_of pair.pattern (vertex_at pair place)) (profile_of pair.target t)) && b)) (sym (all-both (λ q. not (arcs_in q) || is_arc pair.target (slice_index images q) t) (λ q. not (arcs_out q) || is_arc pair.target t (slice_index images q)) 0 count))
+              ∙ ap (λ a. a && ((not (contains images t) && has_room (profile_of pair.pattern (vertex_at pair place)) (profile_of pair.target t)) && keeps_all pair images (vertex_at pair place) t)) (sym (lt-ltb t (vertex_count pair.target) less))
+          | inr more ↦
+              all_is ∙ ap (λ a. a && list_all (λ q. in_row predecessors (slice_index images q) t) (places_in to)) (kept_is ∙ ap (λ a. a && list_all (λ q. in_row successors (slice_index images q) t) (places_in from)) (free_is ∙ ap (λ a. a && not (contains images t)) (room_is ∙ ap (λ a. a && has_room (profile_of pair.pattern (vertex_at pair place)) (profile_of pair.target t)) (le-ltb t (vertex_count pair.target) more))))
+              ∙ sym (ap (λ a. a && ((not (contains images t) && has_room (profile_of pair.pattern (vertex_at pair place)) (profile_of pair.target t)) && keeps_all pair images (vertex_at pair place) t)) (le-ltb t (vertex_count pair.target) more))
+        ]
+      where
+        few : count ≤ 64
+        few = let l = count-small in omega arith
+
+        turn : (a b c d : Bool) → ((((true && a) && b) && c) && d) ≡ (true && ((b && a) && (c && d)))
+        turn a b c d = grind arith
+
+-- what stands before a limit that is met falls away
+pub met-limit : (t n : ℕ) (b : Bool) → t < n → (nat_lt t n && b) ≡ b
+met-limit t n b l = ap (λ a. a && b) (lt-ltb t n l)

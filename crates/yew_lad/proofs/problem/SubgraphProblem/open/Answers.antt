@@ -1,0 +1,19 @@
+use Rattle.std.proofs.Common.{ap, ◌∙◌, arith}
+use Rattle.yew_lad.specs.NodeWords.{all_with}
+use Rattle.yew_lad.proofs.NextLaws.{children-next, children-whole}
+use Rattle.yew_lad.proofs.problem.SubgraphProblem.open.Goals as goal
+use Rattle.yew_lad.proofs.problem.SubgraphProblem.open.Goals.{then-count-places, else-count-places}
+
+pub returns : goal.returns
+returns c =
+    let count = c.count.ensures.value in
+    let places = c.places.ensures.value in
+    c.new.ensures
+    ∙ elim c.if-count-places.branch [
+      | then-count-places w ↦
+          let l = w.if-count-places.true in
+          ap (all_with c.args.node) w.left-is ∙ children-next c.args.self.now c.args.node c.requires.node (omega arith) w.next_candidates-left.result w.next_candidates-left.ensures
+      | else-count-places w ↦
+          let l = w.if-count-places.false in
+          ap (all_with c.args.node) w.left-is ∙ children-whole c.args.self.now c.args.node (omega arith)
+    ]

@@ -1,0 +1,15 @@
+pub mod Answers
+pub mod Bits
+pub mod Candidates
+pub mod Digraphs
+pub mod Files
+pub mod Lists
+pub mod Maps
+pub mod NodeLaws
+pub mod NodeWords
+pub mod Nodes
+pub mod OrderLaws
+pub mod Reading
+pub mod SearchedOrder
+pub mod Tables
+pub mod Texts

@@ -1,0 +1,62 @@
+-- What a problem keeps beside its graphs: tables of bits, each a test of two numbers.
+use Rattle.std.specs.Prelude.{◌≡◌, ℕ, ◌+◌, ◌*◌, ◌/◌, ◌<◌, Bool, false, ◌&&◌, ◌||◌, ◌==◌, List, length, slice_index_or, nat_lt}
+use Rattle.yew_lad.specs.declared.profiles.Profile.{Profile}
+use Rattle.yew_lad.specs.Bits.{BitTable, in_row}
+use Rattle.yew_lad.specs.Digraphs.{Digraph, GraphPair, IsWithinLimits, vertex_count, is_arc}
+use Rattle.yew_lad.specs.Nodes.{vertex_at, has_room}
+use Rattle.yew_lad.specs.SearchedOrder.{profile_of, searched_profiles}
+
+-- the table has the bits of a test in its first rows, and those before a column in the next row
+pub record IsFilled (rows width : ℕ) (test : ℕ → ℕ → Bool) (row column : ℕ) (table : BitTable) : Type 0 where
+  pub rows_are : table.rows ≡ rows
+  pub width_is : table.width ≡ width
+  pub bits : (a b : ℕ) → b < 64 * width → in_row table a b ≡ ((nat_lt a row || (a == row && nat_lt b column)) && test a b)
+
+-- the table has the bits of a test
+pub record HasTest (rows width : ℕ) (test : ℕ → ℕ → Bool) (table : BitTable) : Type 0 where
+  pub rows_are : table.rows ≡ rows
+  pub width_is : table.width ≡ width
+  pub bits : (a b : ℕ) → a < rows → b < 64 * width → in_row table a b ≡ test a b
+
+-- no vertex
+abbrev pub blank : Profile
+blank = record { vertex = 0; successors = 0; predecessors = 0; looped = false }
+
+-- the vertex at a place of an order
+abbrev pub vertex_in : List Profile → ℕ → ℕ
+vertex_in order place = (slice_index_or order place blank).vertex
+
+-- the profile at t of a list has room for that at a place of an order
+abbrev pub has_room_in : List Profile → List Profile → ℕ → ℕ → Bool
+has_room_in order images place t = nat_lt t (length images) && has_room (slice_index_or order place blank) (slice_index_or images t blank)
+
+-- there is an arc from t to v
+abbrev pub is_arc_back : Digraph → ℕ → ℕ → Bool
+is_arc_back graph v t = nat_lt t (vertex_count graph) && is_arc graph t v
+
+-- there is an arc from an earlier place of an order, and one to an earlier place
+abbrev pub is_source : Digraph → List Profile → ℕ → ℕ → Bool
+is_source graph order place earlier = nat_lt earlier place && is_arc graph (vertex_in order earlier) (vertex_in order place)
+
+abbrev pub is_aim : Digraph → List Profile → ℕ → ℕ → Bool
+is_aim graph order place earlier = nat_lt earlier place && is_arc graph (vertex_in order place) (vertex_in order earlier)
+
+-- how many words a set of n vertices has
+abbrev pub words_for : ℕ → ℕ
+words_for n = (n + 63) / 64
+
+-- The tables of a pair of graphs: which target vertices have room for the pattern's, the target's arcs turned round, and
+-- the earlier places with an arc to a place and from it.
+pub record AreTables (pair : GraphPair) (order : List Profile) (room_table predecessor_table source_table aim_table : BitTable) : Type 0 where
+  pub limits : IsWithinLimits pair
+  pub order_is : order ≡ searched_profiles pair.pattern
+  pub rooms : HasTest (vertex_count pair.pattern) (words_for (vertex_count pair.target)) (λ place t. nat_lt t (vertex_count pair.target) && has_room (profile_of pair.pattern (vertex_at pair place)) (profile_of pair.target t)) room_table
+  pub predecessors : HasTest (vertex_count pair.target) (words_for (vertex_count pair.target)) (is_arc_back pair.target) predecessor_table
+  pub sources : HasTest (vertex_count pair.pattern) 1 (λ place earlier. nat_lt earlier place && is_arc pair.pattern (vertex_at pair earlier) (vertex_at pair place)) source_table
+  pub aims : HasTest (vertex_count pair.pattern) 1 (λ place earlier. nat_lt earlier place && is_arc pair.pattern (vertex_at pair place) (vertex_at pair earlier)) aim_table
+
+-- the table has the arcs of a graph
+pub record HasArcs (graph : Digraph) (table : BitTable) : Type 0 where
+  pub rows_are : table.rows ≡ vertex_count graph
+  pub width_is : table.width ≡ words_for (vertex_count graph)
+  pub bits : (u v : ℕ) → u < vertex_count graph → v < vertex_count graph → in_row table u v ≡ is_arc graph u v

@@ -1,0 +1,71 @@
+//! The search of a map as a problem of tree search.
+
+use crate::nodes::{MapKids, MapNode};
+use crate::subgraph::Subgraph;
+use std::alloc::Global;
+use yew_laws::{Memory, Problem};
+
+impl Problem for Subgraph {
+    ghost use Rattle.yew_lad.specs.Nodes.{root_of, children_of, rank_of, worth_of, bound_of, IsNode};
+    ghost use Rattle.yew_lad.specs.NodeLaws.{maps-ranked, maps-bounded, maps-countable, root_rank-small};
+
+    type Node = MapNode;
+
+    type Kids = MapKids;
+
+    ghost root = { λ pair. root_of pair };
+
+    ghost children = { λ pair images. children_of pair images };
+
+    ghost rank = { λ pair images. rank_of pair images };
+
+    ghost sound = { λ pair images. IsNode pair images };
+
+    ghost remaining = { λ _ kids. kids };
+
+    ghost worth = { λ pair images. worth_of pair images };
+
+    ghost bound = { λ pair images. bound_of pair images };
+
+    ghost ranked = { λ pair. maps-ranked pair };
+
+    ghost root_rank = { λ pair sound. root_rank-small pair sound };
+
+    ghost bounded = { λ pair. maps-bounded pair };
+
+    ghost countable = { λ pair images sound. maps-countable pair images sound };
+
+    fn root(&self, _alloc: Global) -> Result<MapNode, Memory> {
+        Ok(MapNode::root())
+    }
+
+    #[inline]
+    fn open(&self, _alloc: Global, node: MapNode) -> Result<MapKids, Memory> {
+        let left = if node.count() < self.places() {
+            self.next_candidates(&node)
+        } else {
+            [0; 16]
+        };
+        Ok(MapKids::new(node, left))
+    }
+
+    #[inline]
+    fn next(&self, _alloc: Global, kids: &mut MapKids) -> Result<Option<MapNode>, Memory> {
+        Ok(kids.take())
+    }
+
+    #[inline]
+    fn worth(&self, node: &MapNode) -> u64 {
+        if node.count() == self.places() { 1 } else { 0 }
+    }
+
+    #[inline]
+    fn bound(&self, node: &MapNode) -> u64 {
+        for place in node.count()..self.places() {
+            if !self.has_candidate(node, place) {
+                return 0;
+            }
+        }
+        1
+    }
+}

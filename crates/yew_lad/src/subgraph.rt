@@ -1,0 +1,159 @@
+//! A pattern and a target, with what the search of a map needs.
+
+ghost use Rattle.std.specs.Prelude.{◌≡◌, ◌+◌, ◌*◌, ◌<◌, ◌≤◌, ℕ, ◌&&◌, ◌==◌, length, slice_index, nat_lt, IfOk};
+ghost use Rattle.std.specs.Int.{bit_at};
+ghost use Rattle.std.specs.List.{list_all};
+ghost use Rattle.yew_lad.specs.Bits.{AreBits, in_row};
+ghost use Rattle.yew_lad.specs.Candidates.{ArePlaces, places_in, AreCandidateWords};
+ghost use Rattle.yew_lad.specs.Digraphs.{GraphPair, vertex_count};
+ghost use Rattle.yew_lad.specs.Nodes.{vertex_at, is_candidate, has_candidate, root_of, IsNode};
+ghost use Rattle.yew_lad.specs.Tables.{words_for};
+
+use crate::bits::BitTable;
+use crate::graph::Graph;
+use crate::nodes::MapNode;
+use crate::order::order_of;
+use crate::profiles::{Profile, profiles};
+use crate::tables::{aims, predecessors, rooms, sources};
+use std::alloc::Global;
+use std::marker::Model;
+use yew_laws::Memory;
+
+/// A pattern, and the target in which it is looked for. Beside them it keeps the pattern's vertices in the order in which
+/// they are mapped, and tables of bits, each computed once.
+#[derive(Drop)]
+pub struct Subgraph {
+    pattern: Graph,
+    target: Graph,
+    order: Vec<Profile>,
+    /// For each place of the order, the target vertices that have room for its vertex.
+    rooms: BitTable,
+    /// For each target vertex, its predecessors.
+    predecessors: BitTable,
+    /// For each place, the earlier places with an arc to its vertex.
+    sources: BitTable,
+    /// For each place, the earlier places with an arc from its vertex.
+    aims: BitTable,
+}
+
+impl Model for Subgraph {
+    ghost use Rattle.yew_lad.specs.Digraphs.{GraphPair};
+    ghost use Rattle.yew_lad.specs.Tables.{AreTables};
+
+    ghost Value = { GraphPair };
+
+    ghost view = { λ a. record { pattern = a.pattern; target = a.target } };
+
+    ghost invariant = { λ a. AreTables (record { pattern = a.pattern; target = a.target }) a.order.items a.rooms a.predecessors a.sources a.aims };
+}
+
+/// The problem of a pattern of at most 64 vertices and a target of at most 1,024.
+pub fn pair(alloc: Global, pattern: Graph, target: Graph) -> Result<Subgraph, Memory>
+    requires pattern { vertex_count pattern ≤ 64 }
+    requires target { vertex_count target ≤ 1024 }
+    ensures pair { IfOk result (λ problem. problem ≡ record { pattern = pattern; target = target }) }
+    ensures root { IfOk result (λ problem. IsNode problem (root_of problem)) }
+{
+    let own = profiles(alloc, &pattern)?;
+    let order = order_of(alloc, own.as_slice())?;
+    let images = profiles(alloc, &target)?;
+    let rooms = rooms(alloc, order.as_slice(), images.as_slice(), target.width())?;
+    let predecessors = predecessors(alloc, &target)?;
+    let sources = sources(alloc, &pattern, order.as_slice())?;
+    let aims = aims(alloc, &pattern, order.as_slice())?;
+    Ok(Subgraph {
+        pattern,
+        target,
+        order,
+        rooms,
+        predecessors,
+        sources,
+        aims,
+    })
+}
+
+/// The bits of a word that stand, for each place of a set, in the row of its image too.
+#[inline]
+fn keep_images(table: &BitTable, node: &MapNode, places: u64, number: usize, word: u64) -> u64
+    requires number { number < table.now.width }
+    requires places { ArePlaces table.now.rows node.now places }
+    ensures { AreBits result (λ k. (bit_at word k == 1) && list_all (λ place. in_row table.now (slice_index node.now place) (64 * number + k)) (places_in places)) }
+{
+    let mut left = places;
+    let mut kept = word;
+    while left != 0 {
+        if kept == 0 {
+            return 0;
+        }
+        let place = left.trailing_zeros();
+        left &= left - 1;
+        kept &= table.word(node.image(place as usize), number);
+    }
+    kept
+}
+
+impl Subgraph {
+    /// How many vertices the pattern has.
+    #[inline]
+    pub(crate) fn places(&self) -> usize
+        ensures value { result ≡ vertex_count self.now.pattern }
+        ensures small { result ≤ 64 }
+    {
+        self.order.len()
+    }
+
+    /// The pattern's vertex at a place of the order.
+    pub(crate) fn vertex(&self, place: usize) -> usize
+        requires { place < vertex_count self.now.pattern }
+        ensures { result ≡ vertex_at self.now place }
+    {
+        self.order[place].vertex as usize
+    }
+
+    /// A word of the set of the candidates for the vertex at a place, which is not mapped yet.
+    #[inline]
+    fn candidates(&self, node: &MapNode, place: usize, number: usize) -> u64
+        requires node { IsNode self.now node.now }
+        requires place { length node.now ≤ place }
+        requires within { place < vertex_count self.now.pattern }
+        requires number { number < words_for (vertex_count self.now.target) }
+        ensures { AreBits result (λ k. nat_lt (64 * number + k) (vertex_count self.now.target) && is_candidate self.now node.now (vertex_at self.now place) (64 * number + k)) }
+    {
+        let mapped = (1 << node.count()) - 1;
+        let free = self.rooms.word(place, number) & node.unused(number);
+        let from = self.sources.word(place, 0) & mapped;
+        let kept = keep_images(self.target.arcs(), node, from, number, free);
+        let to = self.aims.word(place, 0) & mapped;
+        keep_images(&self.predecessors, node, to, number, kept)
+    }
+
+    /// Whether the vertex at a place, which is not mapped yet, has a candidate.
+    #[inline]
+    pub(crate) fn has_candidate(&self, node: &MapNode, place: usize) -> bool
+        requires node { IsNode self.now node.now }
+        requires place { length node.now ≤ place }
+        requires within { place < vertex_count self.now.pattern }
+        ensures { result ≡ has_candidate self.now node.now (vertex_at self.now place) }
+    {
+        for number in 0..self.target.width() {
+            if self.candidates(node, place, number) != 0 {
+                return true;
+            }
+        }
+        false
+    }
+
+    /// The set of the candidates for the next vertex.
+    #[inline]
+    pub(crate) fn next_candidates(&self, node: &MapNode) -> [u64; 16]
+        requires node { IsNode self.now node.now }
+        requires within { length node.now < vertex_count self.now.pattern }
+        ensures { AreCandidateWords self.now node.now 1024 result }
+    {
+        let mut words = [0; 16];
+        for number in 0..self.target.width() {
+            words[number] = self.candidates(node, node.count(), number);
+        }
+        words
+    }
+}

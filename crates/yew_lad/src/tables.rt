@@ -1,0 +1,86 @@
+//! What depends on the graphs alone, computed once: tables of bits.
+
+ghost use Rattle.std.specs.Prelude.{◌≡◌, ◌+◌, ◌*◌, ◌/◌, ◌<◌, ◌≤◌, IfOk, length};
+ghost use Rattle.std.specs.List.{AllByRecursion};
+ghost use Rattle.yew_lad.specs.Digraphs.{vertex_count};
+ghost use Rattle.yew_lad.specs.Tables.{HasTest, has_room_in, is_arc_back, is_source, is_aim, words_for};
+
+use crate::bits::BitTable;
+use crate::graph::Graph;
+use crate::profiles::Profile;
+use std::alloc::Global;
+use yew_laws::Memory;
+
+/// For each vertex of an order, the vertices of a list that have room for it.
+pub fn rooms(
+    alloc: Global,
+    order: &[Profile],
+    images: &[Profile],
+    width: usize,
+) -> Result<BitTable, Memory>
+    requires order { length order.now ≤ 64 }
+    requires width { width ≤ 16 }
+    requires images { length images.now ≤ 64 * width }
+    ensures { IfOk result (HasTest (length order.now) width (has_room_in order.now images.now)) }
+{
+    let mut table = BitTable::empty(alloc, order.len(), width)?;
+    for place in 0..order.len() {
+        for t in 0..images.len() {
+            table.put(place, t, order[place].has_room(&images[t]));
+        }
+    }
+    Ok(table)
+}
+
+/// For each vertex of a graph its predecessors.
+pub fn predecessors(alloc: Global, graph: &Graph) -> Result<BitTable, Memory>
+    ensures { IfOk result (HasTest (vertex_count graph.now) (words_for (vertex_count graph.now)) (is_arc_back graph.now)) }
+{
+    let mut table = BitTable::empty(alloc, graph.size(), graph.width())?;
+    for v in 0..graph.size() {
+        for t in 0..graph.size() {
+            table.put(v, t, graph.has_arc(t, v));
+        }
+    }
+    Ok(table)
+}
+
+/// For each place of an order the earlier places with an arc to its vertex.
+pub fn sources(alloc: Global, graph: &Graph, order: &[Profile]) -> Result<BitTable, Memory>
+    requires few { length order.now ≤ 64 }
+    requires vertices { AllByRecursion (λ x. x.vertex < vertex_count graph.now) order.now }
+    ensures { IfOk result (HasTest (length order.now) 1 (is_source graph.now order.now)) }
+{
+    let mut table = BitTable::empty(alloc, order.len(), 1)?;
+    for place in 0..order.len() {
+        for earlier in 0..place {
+            let u = order[earlier].vertex as usize;
+            table.put(
+                place,
+                earlier,
+                graph.has_arc(u, order[place].vertex as usize),
+            );
+        }
+    }
+    Ok(table)
+}
+
+/// For each place of an order the earlier places with an arc from its vertex.
+pub fn aims(alloc: Global, graph: &Graph, order: &[Profile]) -> Result<BitTable, Memory>
+    requires few { length order.now ≤ 64 }
+    requires vertices { AllByRecursion (λ x. x.vertex < vertex_count graph.now) order.now }
+    ensures { IfOk result (HasTest (length order.now) 1 (is_aim graph.now order.now)) }
+{
+    let mut table = BitTable::empty(alloc, order.len(), 1)?;
+    for place in 0..order.len() {
+        for earlier in 0..place {
+            let v = order[earlier].vertex as usize;
+            table.put(
+                place,
+                earlier,
+                graph.has_arc(order[place].vertex as usize, v),
+            );
+        }
+    }
+    Ok(table)
+}
