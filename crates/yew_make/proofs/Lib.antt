@@ -1,0 +1,11 @@
+pub mod Generator
+pub mod Ranges
+pub mod RowSteps
+pub mod TourHeads
+pub mod Triangles
+pub mod Items
+pub mod Pairs
+pub mod NumberWords
+pub mod KnapsackFiles
+pub mod GraphFiles
+pub mod TourFiles

@@ -1,0 +1,8 @@
+pub mod Draws
+pub mod Rows
+pub mod Knapsacks
+pub mod Pairs
+pub mod Tours
+pub mod Graphs
+pub mod Texts
+pub mod Laws

@@ -1,0 +1,34 @@
+//! What holds of everything that is made. Each function does nothing: its contract is the law.
+
+ghost use Rattle.std.specs.Prelude.{◌≡◌, ℕ, ◌≤◌, ◌<◌, ◌^◌, ◌==◌, false};
+ghost use Rattle.yew_make.specs.Graphs.{are_joined};
+ghost use Rattle.yew_make.specs.Pairs.{AreInOrder};
+ghost use Rattle.yew_make.specs.Laws.{AreGeneratorWords, MadeKnapsack, MadeTour, MadeGraph};
+
+/// The draws of a seed are the words of the generator.
+pub fn made_draws()
+    ensures { (seed count : ℕ) → AreGeneratorWords seed count }
+{}
+
+/// The places of the pairs, row by row, are 0, 1, 2 and so on.
+pub fn pairs_in_order()
+    ensures { (size : ℕ) → AreInOrder size }
+{}
+
+/// The text of a made knapsack is a file of the made instance, which is within the limits of knapsack files, and whose
+/// profits and weights are from 1 to 1000.
+pub fn made_knapsack()
+    ensures { (seed size : ℕ) → size ≤ 256 → MadeKnapsack seed size }
+{}
+
+/// The text of a made tour instance has the fields of a specification part of TSPLIB 95, and behind them the weights above
+/// the diagonal row by row, each from 1 to 1000, and the end of the file.
+pub fn made_tour()
+    ensures { (seed size : ℕ) → 1 ≤ size → size ≤ 60 → MadeTour seed size }
+{}
+
+/// The words of the text of a made graph are the number of its vertices, and for each vertex the number of its successors
+/// and the successors, which are vertices.
+pub fn made_graph()
+    ensures { (seed size : ℕ) → size ≤ 1024 → MadeGraph seed size }
+{}
