@@ -1,44 +1,63 @@
-//! What a walk has found so far.
+//! What a worker has found so far.
 
-ghost use Rattle.std.specs.Prelude.{◌≡◌, ◌≤◌, [], None, length};
+ghost use Rattle.std.specs.Prelude.{◌≡◌, ◌<◌, ◌≤◌, ◌^◌, length};
 ghost use Rattle.yew_laws.specs.Incumbent.{improved};
 ghost use Rattle.yew_walk.specs.Hands.{incumbent_of, numbers_of};
+ghost use Rattle.yew_walk.specs.Keys.{IsKeying, answer_key};
 
+use crate::keying::Keying;
 use yew_laws::Path;
 
-/// The greatest worth so far, the path of the first node that had it, and the sum of the nodes that were visited. With
-/// worth 0 no node was an answer, and the path says nothing.
+/// The sum of the nodes that were visited, and the greatest key of a visited node that is an answer, with the path of
+/// the first one that had it. Where nothing is held, no such node was visited, and key and path say nothing.
 #[derive(Drop)]
 pub struct Hand<S> {
-    pub worth: u64,
-    pub path: Path,
     pub sum: S,
+    pub key: u64,
+    pub path: Path,
+    pub holds: bool,
 }
 
 impl<S: Drop> Hand<S> {
-    /// Takes the worth of a visited node into account. The path is copied only where the worth is greater.
+    /// Takes the worth of a visited node into account. The path is copied only where the key is greater.
     #[inline]
-    pub fn improve(&mut self, worth: u64, path: &Path)
-        requires { length path.now.numbers ≤ self.old.path.space }
-        ensures incumbent { incumbent_of self.new ≡ improved (incumbent_of self.old) worth path.now.numbers }
+    pub(crate) fn keep(&mut self, keying: Keying, worth: u64, path: &Path)
+        requires keying { IsKeying keying }
+        requires worth { worth < 2 ^ 40 }
+        requires space { length path.now.numbers ≤ self.old.path.space }
+        ensures incumbent { incumbent_of self.new ≡ improved (incumbent_of self.old) (answer_key keying worth) path.now.numbers }
         ensures sum { self.new.sum ≡ self.old.sum }
         ensures space { self.new.path.space ≡ self.old.path.space }
     {
-        if worth > self.worth {
-            self.worth = worth;
-            self.path.set(path);
+        if worth == 0 {
+            return;
         }
+        let key = keying.key(worth);
+        if self.holds && key <= self.key {
+            return;
+        }
+        self.key = key;
+        self.path.set(path);
+        self.holds = true;
     }
 
-    /// The path of the best node, if any node was an answer.
-    pub fn into_path(self) -> Option<Path>
+    /// The key of the best node, and 0 if no visited node was an answer.
+    pub(crate) fn best_key(&self) -> u64
+        ensures { result ≡ (incumbent_of self.now).worth }
+    {
+        if self.holds { self.key } else { 0 }
+    }
+
+    /// The path of the best node, if any visited node was an answer.
+    pub(crate) fn into_path(self) -> Option<Path>
         ensures { numbers_of result ≡ (incumbent_of self).path }
     {
         let Hand {
-            worth,
-            path,
             sum: _,
+            key: _,
+            path,
+            holds,
         } = self;
-        if worth > 0 { Some(path) } else { None }
+        if holds { Some(path) } else { None }
     }
 }

@@ -1,93 +1,203 @@
 //! The sequential search, of each kind.
 
-ghost use Rattle.std.specs.Prelude.{◌≤◌, IfOk};
+ghost use Rattle.std.specs.Prelude.{◌≡◌, ◌≤◌, [], ◌∷◌, false, IsSome, IfOk, IfErr};
 ghost use Rattle.yew_kinds.specs.Kinds.{IsTargetInRange};
+ghost use Rattle.yew_kinds.specs.Wrappers.{counted_tree, clipped_tree};
 ghost use Rattle.yew_laws.specs.Fold.{Fold};
+ghost use Rattle.yew_laws.specs.Greatest.{greatest, first_best};
 ghost use Rattle.yew_laws.specs.SearchTree.{search_tree};
 ghost use Rattle.yew_walk.specs.Answers.{IsCountAnswer, IsBestAnswer, IsReachAnswer};
+ghost use Rattle.yew_walk.specs.Hands.{incumbent_of};
 ghost use Rattle.yew_walk.specs.Kinds.{IsAnswer};
+ghost use Rattle.yew_walk.specs.LogViews.{log_view};
+ghost use Rattle.yew_walk.specs.PlainSearch.{searched_tree, NeverCuts, IsPlainLog, HasPlainLog, IsPlainFault};
 
-use crate::walk::walk;
+use crate::fault::SearchFault;
+use crate::hand::Hand;
+use crate::keying::Keying;
+use crate::outlet::Outbox;
+use crate::policy::Plain;
+use crate::walking::walk;
 use std::alloc::Global;
-use thiserror::Error;
+use yew_best::Best;
 use yew_kinds::{Answer, Clipped, Counted, Kind, NoTally, Tally};
-use yew_laws::{Memory, Problem};
+use yew_laws::{Memory, Path, Problem, Task};
+use yew_log::Recorder;
 
-/// Why a search has no answer.
-#[derive(Debug, Drop, Error)]
-#[error("SearchFault")]
-pub enum SearchFault {
-    /// Memory ran out.
-    Memory,
+// No path of a tree has more numbers.
+const LONGEST_PATH: u32 = 65_535;
+
+/// The answer of a search, and the logs of its workers, the first one's first.
+#[derive(Drop)]
+pub struct Found<S, R> {
+    pub answer: Answer<S>,
+    pub logs: Vec<R>,
 }
 
-impl From<Memory> for SearchFault {
-    fn from(_: Memory) -> SearchFault {
-        SearchFault::Memory
+/// What one worker has found on its own, and its log.
+#[derive(Drop)]
+struct Alone<S, R> {
+    hand: Hand<S>,
+    log: R,
+}
+
+/// A hand with nothing in it, whose path has room for any path of a tree.
+fn empty_hand<N, T: Tally<N>>(alloc: Global, tally: &T) -> Result<Hand<T::Sum>, Memory>
+    ensures holds { IfOk result (λ hand. hand.holds ≡ false) }
+    ensures sum { IfOk result (λ hand. hand.sum ≡ T.none tally.now) }
+    ensures space { IfOk result (λ hand. 65535 ≤ hand.path.space) }
+{
+    Ok(Hand {
+        sum: tally.none(alloc)?,
+        key: 0,
+        path: Path::empty(alloc, LONGEST_PATH)?,
+        holds: false,
+    })
+}
+
+/// Searches the whole tree of a problem as one task.
+fn search_alone<Q: Problem, T: Tally<Q::Node>, R: Recorder>(
+    alloc: Global,
+    problem: &Q,
+    tally: &T,
+) -> Result<Alone<T::Sum, R>, SearchFault>
+    requires { Q.sound problem.now (Q.root problem.now) }
+    ensures best { IfOk result (λ alone. let t = search_tree Q.Problem problem.now in incumbent_of alone.hand ≡ record { worth = greatest t; path = first_best t }) }
+    ensures sum { IfOk result (λ alone. let t = search_tree Q.Problem problem.now in NeverCuts t → alone.hand.sum ≡ Fold t (T.join tally.now) (T.none tally.now) (T.of tally.now)) }
+    ensures log { IfOk result (λ alone. IsPlainLog (search_tree Q.Problem problem.now) (log_view (R.told alone.log) (R.totals alone.log) (R.number alone.log))) }
+    ensures fault { IfErr result (IsPlainFault (search_tree Q.Problem problem.now) ((log : R) × IsSome (R.told log))) }
+{
+    let (best, mut seat) = Best::new(alloc, 1)?;
+    let mut hand = empty_hand(alloc, tally)?;
+    let mut log = R::fresh(alloc, 1)?;
+    let mut policy = Plain::new();
+    let mut outlet = Outbox::new(alloc, problem);
+    let root = Task {
+        path: Path::empty(alloc, 0)?,
+        node: problem.root(alloc)?,
+    };
+    match walk(
+        alloc,
+        problem,
+        root,
+        &best,
+        &mut seat,
+        Keying::Plain,
+        &mut policy,
+        &mut outlet,
+        tally,
+        &mut hand,
+        &mut log,
+    ) {
+        Ok(()) => Ok(Alone { hand, log }),
+        Err(fault) => Err(fault),
     }
 }
 
+/// The one log of a search of one worker.
+fn only_log<R: Recorder>(alloc: Global, log: R) -> Result<Vec<R>, Memory>
+    ensures { IfOk result (λ logs. logs.items ≡ log ∷ []) }
+{
+    let mut logs = Vec::with_capacity(alloc, 1)?;
+    logs.push(log)?;
+    Ok(logs)
+}
+
 /// The fold of all nodes.
-fn count<P: Problem, T: Tally<P::Node>>(
+fn count<P: Problem, T: Tally<P::Node>, R: Recorder>(
     alloc: Global,
     problem: &P,
     tally: &T,
-) -> Result<Answer<T::Sum>, Memory>
+) -> Result<Found<T::Sum, R>, SearchFault>
     requires { P.sound problem.now (P.root problem.now) }
-    ensures { IfOk result (IsCountAnswer (Fold (search_tree P.Problem problem.now) (T.join tally.now) (T.none tally.now) (T.of tally.now))) }
+    ensures answer { IfOk result (λ found. IsCountAnswer (Fold (search_tree P.Problem problem.now) (T.join tally.now) (T.none tally.now) (T.of tally.now)) found.answer) }
+    ensures logs { IfOk result (λ found. HasPlainLog (counted_tree (search_tree P.Problem problem.now)) (λ log. log_view (R.told log) (R.totals log) (R.number log)) found.logs.items) }
+    ensures fault { IfErr result (IsPlainFault (counted_tree (search_tree P.Problem problem.now)) ((log : R) × IsSome (R.told log))) }
 {
     let counted = Counted { inner: problem };
-    let hand = walk(alloc, &counted, tally)?;
-    Ok(Answer::Count(hand.sum))
+    match search_alone::<_, _, R>(alloc, &counted, tally) {
+        Ok(Alone { hand, log }) => Ok(Found {
+            answer: Answer::Count(hand.sum),
+            logs: only_log(alloc, log)?,
+        }),
+        Err(fault) => Err(fault),
+    }
 }
 
 /// The first best node.
-fn best<P: Problem, S>(alloc: Global, problem: &P) -> Result<Answer<S>, Memory>
+fn best<P: Problem, S: Drop, R: Recorder>(
+    alloc: Global,
+    problem: &P,
+) -> Result<Found<S, R>, SearchFault>
     requires { P.sound problem.now (P.root problem.now) }
-    ensures { IfOk result (IsBestAnswer (search_tree P.Problem problem.now)) }
+    ensures answer { IfOk result (λ found. IsBestAnswer (search_tree P.Problem problem.now) found.answer) }
+    ensures logs { IfOk result (λ found. HasPlainLog (search_tree P.Problem problem.now) (λ log. log_view (R.told log) (R.totals log) (R.number log)) found.logs.items) }
+    ensures fault { IfErr result (IsPlainFault (search_tree P.Problem problem.now) ((log : R) × IsSome (R.told log))) }
 {
-    let hand = walk(alloc, problem, &NoTally)?;
-    let worth = hand.worth;
-    let path = hand.into_path();
-    Ok(Answer::Best { worth, path })
+    match search_alone::<_, _, R>(alloc, problem, &NoTally) {
+        Ok(Alone { hand, log }) => {
+            let worth = hand.best_key();
+            let path = hand.into_path();
+            Ok(Found {
+                answer: Answer::Best { worth, path },
+                logs: only_log(alloc, log)?,
+            })
+        }
+        Err(fault) => Err(fault),
+    }
 }
 
 /// The first node that meets a target.
-fn reach<P: Problem, S>(alloc: Global, problem: &P, target: u64) -> Result<Answer<S>, Memory>
+fn reach<P: Problem, S: Drop, R: Recorder>(
+    alloc: Global,
+    problem: &P,
+    target: u64,
+) -> Result<Found<S, R>, SearchFault>
     requires root { P.sound problem.now (P.root problem.now) }
     requires target { 1 ≤ target }
-    ensures { IfOk result (IsReachAnswer (search_tree P.Problem problem.now) target) }
+    ensures answer { IfOk result (λ found. IsReachAnswer (search_tree P.Problem problem.now) target found.answer) }
+    ensures logs { IfOk result (λ found. HasPlainLog (clipped_tree (search_tree P.Problem problem.now) target) (λ log. log_view (R.told log) (R.totals log) (R.number log)) found.logs.items) }
+    ensures fault { IfErr result (IsPlainFault (clipped_tree (search_tree P.Problem problem.now) target) ((log : R) × IsSome (R.told log))) }
 {
     let clipped = Clipped {
         inner: problem,
         target,
     };
-    let hand = walk(alloc, &clipped, &NoTally)?;
-    Ok(Answer::Reach(hand.into_path()))
+    match search_alone::<_, _, R>(alloc, &clipped, &NoTally) {
+        Ok(Alone { hand, log }) => Ok(Found {
+            answer: Answer::Reach(hand.into_path()),
+            logs: only_log(alloc, log)?,
+        }),
+        Err(fault) => Err(fault),
+    }
 }
 
 /// Searches the tree of a problem, one node after another (branch and bound in depth first order, the sequential skeleton
-/// of Archibald, Maier, Stewart and Trinder, PPoPP 2020).
+/// of Archibald, Maier, Stewart and Trinder, PPoPP 2020). It always returns.
 ///
 /// A count answers the fold of all nodes by the tally, each at its depth. A search for a best node answers the greatest
 /// worth, and the first path in preorder that has it; there is none exactly where that worth is 0. A decision answers the
 /// first path in preorder whose node has at least the target as its worth; there is none exactly where no node has. A
 /// target is from 1 to 2^40 - 1.
-pub fn search_plain<P: Problem, T: Tally<P::Node>>(
+///
+/// Its one log is that of worker 1, and its entries and totals are those of the one sequential log. `AuditFull` comes
+/// exactly where that log meets the limits of a log that tells its entries; `TooManyTasks` never comes.
+pub fn search_plain<P: Problem, T: Tally<P::Node>, R: Recorder>(
     alloc: Global,
     problem: &P,
     kind: Kind,
     tally: &T,
-) -> Result<Answer<T::Sum>, SearchFault>
+) -> Result<Found<T::Sum, R>, SearchFault>
     requires root { P.sound problem.now (P.root problem.now) }
     requires target { IsTargetInRange kind }
-    ensures { IfOk result (λ answer. let t = search_tree P.Problem problem.now in
-        IsAnswer t (Fold t (T.join tally.now) (T.none tally.now) (T.of tally.now)) kind answer) }
+    ensures answer { IfOk result (λ found. let t = search_tree P.Problem problem.now in
+        IsAnswer t (Fold t (T.join tally.now) (T.none tally.now) (T.of tally.now)) kind found.answer) }
+    ensures logs { IfOk result (λ found. HasPlainLog (searched_tree (search_tree P.Problem problem.now) kind) (λ log. log_view (R.told log) (R.totals log) (R.number log)) found.logs.items) }
+    ensures fault { IfErr result (IsPlainFault (searched_tree (search_tree P.Problem problem.now) kind) ((log : R) × IsSome (R.told log))) }
 {
-    let answer = match kind {
-        Kind::Count => count(alloc, problem, tally)?,
-        Kind::Best => best(alloc, problem)?,
-        Kind::Reach(target) => reach(alloc, problem, target)?,
-    };
-    Ok(answer)
+    match kind {
+        Kind::Count => count(alloc, problem, tally),
+        Kind::Best => best(alloc, problem),
+        Kind::Reach(target) => reach(alloc, problem, target),
+    }
 }

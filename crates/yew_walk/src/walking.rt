@@ -1,0 +1,237 @@
+//! The walk over the tree of a task.
+
+ghost use Rattle.std.specs.Prelude.{◌≡◌, ℕ, ◌<◌, ◌≤◌, List, [], IfOk, IfErr, OnOk, MatchBool};
+ghost use Rattle.yew_laws.specs.SearchTree.{IsTask};
+ghost use Rattle.yew_stack.specs.ToCome.{turns_left, AllOpen};
+ghost use Rattle.yew_walk.specs.Entering.{Enters, StopsEntering};
+ghost use Rattle.yew_walk.specs.Keys.{IsKeying};
+ghost use Rattle.yew_walk.specs.LogViews.{log_view, IsWithin};
+ghost use Rattle.yew_walk.specs.Scenes.{Scene, scene, IsWalking, IsWalked, IsRefused};
+
+use crate::fault::SearchFault;
+use crate::hand::Hand;
+use crate::keying::Keying;
+use crate::outlet::Outlet;
+use crate::policy::{Event, Policy};
+use crate::share::{ask, note};
+use crate::verdict::{Verdict, consider};
+use std::alloc::Global;
+use yew_best::{Best, BestSeat};
+use yew_kinds::Tally;
+use yew_laws::{Problem, Task};
+use yew_log::{Recorder, What};
+use yew_stack::{GenStack, Turn};
+
+/// Visits a node or cuts it off, and records it. A visited node is taken into account, and its children are a new level.
+#[inline]
+fn enter<P: Problem, T: Tally<P::Node>, R: Recorder>(
+    alloc: Global,
+    problem: &P,
+    task: Task<P>,
+    best: &Best,
+    seat: &mut BestSeat,
+    keying: Keying,
+    tally: &T,
+    hand: &mut Hand<T::Sum>,
+    log: &mut R,
+    stack: &mut GenStack<P>,
+) -> Result<Event, SearchFault>
+    requires root { P.sound problem.now (P.root problem.now) }
+    requires task { IsTask P.Problem problem.now task.path.numbers task.node }
+    requires seat { seat.old.best ≡ best.now }
+    requires keying { IsKeying keying }
+    requires space { 65535 ≤ hand.old.path.space }
+    requires fits { T.fits tally.now hand.old.sum }
+    ensures ok { IfOk result (λ event. Enters P.Problem problem.now keying task.path.numbers task.node (T.join tally.now) (T.of tally.now) event
+        seat.old hand.old (log_view (R.told log.old) (R.totals log.old) (R.number log.old)) stack.old
+        seat.new hand.new (log_view (R.told log.new) (R.totals log.new) (R.number log.new)) stack.new) }
+    ensures within { OnOk result (IsWithin (R.told log.new)) }
+    ensures err { IfErr result (λ fault. StopsEntering P.Problem problem.now keying task.path.numbers task.node fault
+        seat.old (log_view (R.told log.old) (R.totals log.old) (R.number log.old)) seat.new (log_view (R.told log.new) (R.totals log.new) (R.number log.new))) }
+    ensures seat { seat.new.best ≡ seat.old.best }
+    ensures share { seat.new.share ≡ seat.old.share }
+    ensures levels_open { OnOk result (AllOpen P.Problem problem.now stack.old → AllOpen P.Problem problem.now stack.new) }
+    ensures space { hand.new.path.space ≡ hand.old.path.space }
+    ensures fits { T.fits tally.now hand.new.sum }
+{
+    match consider(problem, best, seat, keying, &task) {
+        Verdict::Cut { bound, read } => {
+            match note(log, What::Cut, &task.path, bound, read) {
+                Ok(()) => {}
+                Err(fault) => return Err(fault),
+            }
+            stack.reuse(task.path);
+            Ok(Event::CutOff)
+        }
+        Verdict::Visit { worth, read } => {
+            match note(log, What::Visited, &task.path, worth, read) {
+                Ok(()) => {}
+                Err(fault) => return Err(fault),
+            }
+            let depth = task.path.numbers().len() as u32;
+            tally.note(&mut hand.sum, &task.node, depth);
+            hand.keep(keying, worth, &task.path);
+            let Task { path, node } = task;
+            let kids = match problem.open(alloc, node) {
+                Ok(kids) => kids,
+                Err(_) => return Err(SearchFault::Memory),
+            };
+            match stack.push_level(path, kids) {
+                Ok(()) => Ok(Event::Visited),
+                Err(_) => Err(SearchFault::Memory),
+            }
+        }
+    }
+}
+
+/// One turn of a walk: the highest level gives a node, which is visited or cut off, or it ends; and then the policy is
+/// asked. Answers whether there was a level.
+#[inline]
+fn turn<P: Problem, Q: Policy, O: Outlet<P>, T: Tally<P::Node>, R: Recorder>(
+    alloc: Global,
+    problem: &P,
+    best: &Best,
+    seat: &mut BestSeat,
+    keying: Keying,
+    policy: &mut Q,
+    outlet: &mut O,
+    tally: &T,
+    hand: &mut Hand<T::Sum>,
+    log: &mut R,
+    stack: &mut GenStack<P>,
+) -> Result<bool, SearchFault>
+    requires root { P.sound problem.now (P.root problem.now) }
+    requires seat { seat.old.best ≡ best.now }
+    requires keying { IsKeying keying }
+    requires outlet { O.problem outlet.old ≡ problem.now }
+    requires space { 65535 ≤ hand.old.path.space }
+    requires fits { T.fits tally.now hand.old.sum }
+    requires levels_open { AllOpen P.Problem problem.now stack.old }
+    ensures ok { OnOk result ((task : List ℕ) (first : Scene P P.Node P.Kids T.Sum Q) →
+        IsWalking P.Problem problem.now keying (T.join tally.now) (T.of tally.now) Q.meaning task first
+        (scene seat.old hand.old policy.old (O.sent outlet.old) (O.answers outlet.old) (log_view (R.told log.old) (R.totals log.old) (R.number log.old))) stack.old
+        → IsWalking P.Problem problem.now keying (T.join tally.now) (T.of tally.now) Q.meaning task first
+        (scene seat.new hand.new policy.new (O.sent outlet.new) (O.answers outlet.new) (log_view (R.told log.new) (R.totals log.new) (R.number log.new))) stack.new) }
+    ensures err { IfErr result (λ fault. (task : List ℕ) (first : Scene P P.Node P.Kids T.Sum Q) →
+        IsWalking P.Problem problem.now keying (T.join tally.now) (T.of tally.now) Q.meaning task first
+        (scene seat.old hand.old policy.old (O.sent outlet.old) (O.answers outlet.old) (log_view (R.told log.old) (R.totals log.old) (R.number log.old))) stack.old
+        → IsRefused P.Problem problem.now keying (T.join tally.now) (T.of tally.now) Q.meaning task first
+        (scene seat.new hand.new policy.new (O.sent outlet.new) (O.answers outlet.new) (log_view (R.told log.new) (R.totals log.new) (R.number log.new))) fault) }
+    ensures more { IfOk result (λ more. MatchBool more (turns_left P.Problem problem.now stack.new < turns_left P.Problem problem.now stack.old) (stack.new ≡ [])) }
+    ensures levels_open { OnOk result (AllOpen P.Problem problem.now stack.new) }
+    ensures seat { seat.new.best ≡ seat.old.best }
+    ensures share { seat.new.share ≡ seat.old.share }
+    ensures space { hand.new.path.space ≡ hand.old.path.space }
+    ensures fits { T.fits tally.now hand.new.sum }
+    ensures problem { O.problem outlet.new ≡ O.problem outlet.old }
+    ensures kept { O.kept outlet.old outlet.new }
+    ensures later { OnOk result (O.later outlet.old outlet.new) }
+{
+    match stack.next(alloc, problem) {
+        Ok(Turn::Node(task)) => {
+            let depth = task.path.numbers().len() as u32;
+            let event = match enter(
+                alloc, problem, task, best, seat, keying, tally, hand, log, stack,
+            ) {
+                Ok(event) => event,
+                Err(fault) => return Err(fault),
+            };
+            match ask(alloc, problem, policy, outlet, log, stack, event, depth) {
+                Ok(()) => Ok(true),
+                Err(fault) => Err(fault),
+            }
+        }
+        Ok(Turn::Ended(path)) => {
+            let depth = path.numbers().len() as u32;
+            match note(log, What::Ended, &path, 0, 0) {
+                Ok(()) => {}
+                Err(fault) => return Err(fault),
+            }
+            stack.reuse(path);
+            match ask(
+                alloc,
+                problem,
+                policy,
+                outlet,
+                log,
+                stack,
+                Event::Ended,
+                depth,
+            ) {
+                Ok(()) => Ok(true),
+                Err(fault) => Err(fault),
+            }
+        }
+        Ok(Turn::Empty) => Ok(false),
+        Err(_) => Err(SearchFault::Memory),
+    }
+}
+
+/// Runs one task to its end: its node and what lies below it are visited or cut off, or split off where the policy asks
+/// for it, and sent to the outlet. Each step is recorded.
+///
+/// A visited node is noted by the tally, and the hand keeps the greatest key of a visited node that is an answer, with
+/// its path. `AuditFull` comes where the log has no room for the next entry, and `TooManyTasks` never.
+pub fn walk<P: Problem, Q: Policy, O: Outlet<P>, T: Tally<P::Node>, R: Recorder>(
+    alloc: Global,
+    problem: &P,
+    task: Task<P>,
+    best: &Best,
+    seat: &mut BestSeat,
+    keying: Keying,
+    policy: &mut Q,
+    outlet: &mut O,
+    tally: &T,
+    hand: &mut Hand<T::Sum>,
+    log: &mut R,
+) -> Result<(), SearchFault>
+    requires root { P.sound problem.now (P.root problem.now) }
+    requires task { IsTask P.Problem problem.now task.path.numbers task.node }
+    requires seat { seat.old.best ≡ best.now }
+    requires keying { IsKeying keying }
+    requires outlet { O.problem outlet.old ≡ problem.now }
+    requires space { 65535 ≤ hand.old.path.space }
+    requires fits { T.fits tally.now hand.old.sum }
+    ensures walked { OnOk result (IsWalked P.Problem problem.now keying (T.join tally.now) (T.of tally.now) Q.meaning task.path.numbers (T.none tally.now)
+        (scene seat.old hand.old policy.old (O.sent outlet.old) (O.answers outlet.old) (log_view (R.told log.old) (R.totals log.old) (R.number log.old)))
+        (scene seat.new hand.new policy.new (O.sent outlet.new) (O.answers outlet.new) (log_view (R.told log.new) (R.totals log.new) (R.number log.new)))) }
+    ensures refused { IfErr result (IsRefused P.Problem problem.now keying (T.join tally.now) (T.of tally.now) Q.meaning task.path.numbers
+        (scene seat.old hand.old policy.old (O.sent outlet.old) (O.answers outlet.old) (log_view (R.told log.old) (R.totals log.old) (R.number log.old)))
+        (scene seat.new hand.new policy.new (O.sent outlet.new) (O.answers outlet.new) (log_view (R.told log.new) (R.totals log.new) (R.number log.new)))) }
+    ensures seat { seat.new.best ≡ seat.old.best }
+    ensures share { seat.new.share ≡ seat.old.share }
+    ensures space { hand.new.path.space ≡ hand.old.path.space }
+    ensures fits { T.fits tally.now hand.new.sum }
+    ensures problem { O.problem outlet.new ≡ O.problem outlet.old }
+    ensures kept { O.kept outlet.old outlet.new }
+    ensures later { OnOk result (O.later outlet.old outlet.new) }
+{
+    match note(log, What::Taken, &task.path, 0, 0) {
+        Ok(()) => {}
+        Err(fault) => return Err(fault),
+    }
+    policy.start();
+    let mut stack = GenStack::new(alloc);
+    let depth = task.path.numbers().len() as u32;
+    let event = match enter(
+        alloc, problem, task, best, seat, keying, tally, hand, log, &mut stack,
+    ) {
+        Ok(event) => event,
+        Err(fault) => return Err(fault),
+    };
+    match ask(
+        alloc, problem, policy, outlet, log, &mut stack, event, depth,
+    ) {
+        Ok(()) => {}
+        Err(fault) => return Err(fault),
+    }
+    loop {
+        match turn(
+            alloc, problem, best, seat, keying, policy, outlet, tally, hand, log, &mut stack,
+        ) {
+            Ok(true) => {}
+            Ok(false) => return Ok(()),
+            Err(fault) => return Err(fault),
+        }
+    }
+}
