@@ -1,7 +1,15 @@
+pub mod AnsweredTexts
 pub mod Causes
-pub mod Found
-pub mod KnapsackFiles
+pub mod FileKinds
+pub mod FileReasons
+pub mod FileStages
+pub mod FoundNodes
+pub mod FullAudits
 pub mod Named
+pub mod PlainAudits
+pub mod PlainTexts
 pub mod Plains
+pub mod SearchedTrees
 pub mod Serving
+pub mod Stages
 pub mod Writing

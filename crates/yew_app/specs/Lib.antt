@@ -1,6 +1,11 @@
+pub mod Judging
 pub mod Knapsacks
 pub mod Outcomes
 pub mod Reasons
 pub mod Refusals
 pub mod Runs
 pub mod Semigroups
+pub mod ShortestTours
+pub mod Stops
+pub mod Subgraphs
+pub mod Texts

@@ -6,8 +6,8 @@ use Rattle.yew_io.specs.Shelf.{File}
 use Rattle.yew_io.specs.Sink.{Appends, AppendsPrefix}
 use Rattle.yew_io.specs.declared.shelf.Shelf as shelf_trait
 use Rattle.yew_io.specs.declared.sink.Sink as sink_trait
-use Rattle.yew_app.specs.Refusals.{Reason, CannotRead, CannotWrite, fault_line, status_of}
-use Rattle.yew_app.specs.Runs.{Answers, RefusesWords, RefusesFiles, IsFine, IsCause}
+use Rattle.yew_app.specs.Refusals.{Reason, CannotRead, FullAudit, CannotWrite, fault_line, status_of}
+use Rattle.yew_app.specs.Runs.{Answers, RefusesWords, RefusesFiles, FillsAudit, IsFine, IsCause}
 
 -- the world outside at one moment: the shelf of files, the sink of the answer, and the sink of faults
 pub record Outside : Type 0 where
@@ -77,6 +77,12 @@ SaysWords words before after status = (reason : Reason) → RefusesWords words r
 abbrev pub SaysFiles : List Word → Outside → Outside → ℕ → Type 0
 SaysFiles words before after status = ¬ Rose before.read_faults after.read_faults → IfSome before.files (λ told.
     (reason : Reason) → RefusesFiles words told reason → Says before after status reason ⊎ (status ≡ 6))
+
+-- where no fault rises at the shelf, its files are told and read, and the search has more than the audit that is asked for
+-- has room for, it says where the audit was full, unless memory runs out
+abbrev pub SaysAudit : List Word → Outside → Outside → ℕ → Type 0
+SaysAudit words before after status = ¬ Rose before.read_faults after.read_faults → IfSome before.files (λ told.
+    FillsAudit words told → ((entries : ℕ) × (numbers : ℕ) × Says before after status (FullAudit 1 entries numbers)) ⊎ (status ≡ 6))
 
 -- where no fault rises and nothing is wrong with the words and the files, it answers, unless memory runs out
 abbrev pub IsComplete : List Word → Outside → Outside → ℕ → Type 0

@@ -15,6 +15,7 @@ pub data Reason : Type 0 where
   TooLarge : (name : List ℕ) (number limit : ℕ) → Reason
   CannotWrite : Reason
   NoMemory : Reason
+  FullAudit : (worker entries numbers : ℕ) → Reason
 
 abbrev pub usage_words : UsageKind → List ℕ
 usage_words usage.Missing = codes "missing"
@@ -47,6 +48,8 @@ fault_line (TooLong name) = line_of (codes "yew: " ∷ name ∷ codes ": longer 
 fault_line (TooLarge name number limit) = line_of (codes "yew: " ∷ name ∷ codes ": " ∷ decimal number ∷ codes " is past " ∷ decimal limit ∷ [])
 fault_line CannotWrite = line_of (codes "yew: " ∷ codes "write fault" ∷ [])
 fault_line NoMemory = line_of (codes "yew: " ∷ codes "out of memory" ∷ [])
+fault_line (FullAudit worker entries numbers) =
+    line_of (codes "yew: worker " ∷ decimal worker ∷ codes ": audit full at " ∷ decimal entries ∷ codes " entries and " ∷ decimal numbers ∷ codes " numbers" ∷ [])
 
 abbrev pub status_of : Reason → ℕ
 status_of (BadUsage place kind) = 1
@@ -57,3 +60,10 @@ status_of (TooLong name) = 4
 status_of (TooLarge name number limit) = 4
 status_of CannotWrite = 5
 status_of NoMemory = 6
+status_of (FullAudit worker entries numbers) = 4
+
+-- an audit is full, or memory ran out
+abbrev pub IsFullOrMemory : Reason → Type 0
+IsFullOrMemory (FullAudit worker entries numbers) = Unit {0}
+IsFullOrMemory NoMemory = Unit {0}
+IsFullOrMemory _ = ⊥

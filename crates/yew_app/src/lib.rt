@@ -1,17 +1,23 @@
 //! The top call: from the words of the command line, a shelf of files and two sinks to the status.
 //!
-//! [`run_plain`] reads the words, reads and judges the files, searches, and writes the whole text or the line of a
-//! refusal. Its contract is the program's: what is written with status 0 is a right answer to the problem, and every
-//! other status has its cause.
+//! [`run_plain`] reads the words, reads and judges the files, searches with one worker or makes a workload, and writes the
+//! whole text or the line of a refusal. Its contract is the program's: what is written with status 0 is a right answer to
+//! the problem, with the report and the audit of its one log where they are asked for, and every other status has its
+//! cause.
 #![tactic(auto)]
 
 mod knapsack;
+mod nodes;
 mod plan;
 mod reading;
 mod refusal;
 mod run;
 mod semigroups;
+mod solve;
+mod subgraph;
+mod tail;
 #[cfg(test)]
 mod tests;
+mod tours;
 
 pub use run::run_plain;

@@ -1,10 +1,9 @@
 //! The plan of the words, where one worker can do it and its parts are there.
 
 ghost use Rattle.std.specs.Prelude.{◌≡◌, ◌↔◌, ◌∷◌, [], IsTrue, IfOk, IfErr, IsErrAnd};
-ghost use Rattle.yew_words.specs.declared.plan.Job.TheVariants as jobs;
 ghost use Rattle.yew_words.specs.Word.{texts};
 ghost use Rattle.yew_words.specs.Plans.{Planned, planned, PlanOf};
-ghost use Rattle.yew_words.specs.Ranges.{IsWithin};
+ghost use Rattle.yew_words.specs.Ranges.{IsWithin, file_count_of};
 ghost use Rattle.yew_app.specs.Reasons.{reason_of};
 ghost use Rattle.yew_app.specs.Refusals.{Reason};
 ghost use Rattle.yew_app.specs.Runs.{IsBuilt, IsPlain, RefusesWords};
@@ -17,8 +16,8 @@ fn is_built(plan: &Plan) -> bool
     ensures { IsTrue result ↔ IsBuilt (planned plan.now) }
 {
     match plan.job {
-        Job::Knapsack | Job::Semigroups => !plan.report && !plan.audit,
-        Job::Tsp | Job::Subgraph | Job::Make(_) => false,
+        Job::Make(_) => !plan.solve,
+        Job::Knapsack | Job::Tsp | Job::Subgraph | Job::Semigroups => true,
     }
 }
 
@@ -51,11 +50,30 @@ pub(crate) fn read_plain<'a>(words: &'a [String]) -> Result<Plan<'a>, Refusal<'a
     Ok(plan)
 }
 
-/// The name of the only file of a plan for a knapsack.
+/// The name of the only file of a plan that has one.
 pub(crate) fn only_file<'a>(plan: &Plan<'a>) -> &'a str
-    requires job { plan.now.job ≡ jobs.Knapsack }
+    requires count { file_count_of plan.now.job ≡ 1 }
     requires within { IsWithin (planned plan.now) }
     ensures { texts plan.now.files.now ≡ result.now ∷ [] }
 {
     plan.files[0].as_str()
+}
+
+/// The names of the two files of a plan.
+#[derive(Clone, Copy)]
+pub(crate) struct FilePair<'a> {
+    pub first: &'a str,
+    pub second: &'a str,
+}
+
+/// The names of the files of a plan that has two.
+pub(crate) fn both_files<'a>(plan: &Plan<'a>) -> FilePair<'a>
+    requires count { file_count_of plan.now.job ≡ 2 }
+    requires within { IsWithin (planned plan.now) }
+    ensures { texts plan.now.files.now ≡ result.first.now ∷ result.second.now ∷ [] }
+{
+    FilePair {
+        first: plan.files[0].as_str(),
+        second: plan.files[1].as_str(),
+    }
 }

@@ -1,9 +1,9 @@
 //! Why a run does not answer: its status, and the line that says so.
 
-ghost use Rattle.std.specs.Prelude.{◌≡◌, ◌≤◌, OnOk, OnErr, length, flat_map};
+ghost use Rattle.std.specs.Prelude.{◌≡◌, ◌≤◌, [], ◌∷◌, OnOk, OnErr, codes, length, flat_map};
 ghost use Rattle.yew_io.specs.Faults.{Rose};
 ghost use Rattle.yew_io.specs.Sink.{Appends, AppendsPrefix};
-ghost use Rattle.yew_app.specs.Refusals.{fault_line, status_of, usage_words, text_words};
+ghost use Rattle.yew_app.specs.Refusals.{NotInGrammar, FullAudit, fault_line, line_of, status_of, usage_words, text_words};
 ghost use Rattle.yew_app.specs.Reasons.{reason_of, piece_text};
 
 use itoa::Buffer;
@@ -34,6 +34,12 @@ pub enum Refusal<'a> {
     WriteFault,
     /// Memory ran out.
     Memory,
+    /// The audit of a worker has no room for the next entry: the entries it has, and their numbers.
+    AuditFull {
+        worker: u32,
+        entries: u64,
+        numbers: u64,
+    },
 }
 
 /// A piece of a line.
@@ -56,7 +62,7 @@ impl<'a> Refusal<'a> {
             Refusal::Usage(_) | Refusal::NotBuilt => 1,
             Refusal::ReadFault(_) => 2,
             Refusal::NotInGrammar(_, _) => 3,
-            Refusal::TooLong(_) | Refusal::TooLarge { .. } => 4,
+            Refusal::TooLong(_) | Refusal::TooLarge { .. } | Refusal::AuditFull { .. } => 4,
             Refusal::WriteFault => 5,
             Refusal::Memory => 6,
         }
@@ -91,10 +97,68 @@ fn fault_text(kind: TextKind) -> &'static str
     }
 }
 
+/// The pieces of a line that says this text.
+fn text_line<'a>(text: &'static str) -> [Piece<'a>; 8]
+    ensures text { flat_map piece_text result ≡ line_of (codes "yew: " ∷ text.now ∷ []) }
+    ensures count { length result ≡ 8 }
+{
+    let none = Piece::Text("");
+    let start = Piece::Text("yew: ");
+    let said = Piece::Text(text);
+    let end = Piece::Text("\n");
+    [start, said, end, none, none, none, none, none]
+}
+
+/// The pieces of a line that says this text of a file.
+fn name_line<'a>(name: &'a str, text: &'static str) -> [Piece<'a>; 8]
+    ensures text { flat_map piece_text result ≡ line_of (codes "yew: " ∷ name.now ∷ text.now ∷ []) }
+    ensures count { length result ≡ 8 }
+{
+    let none = Piece::Text("");
+    let start = Piece::Text("yew: ");
+    let said = Piece::Text(text);
+    let end = Piece::Text("\n");
+    [start, Piece::Name(name), said, end, none, none, none, none]
+}
+
+/// The pieces of the line of an offence in a file.
+fn grammar_line<'a>(name: &'a str, fault: TextFault) -> [Piece<'a>; 8]
+    ensures text { flat_map piece_text result ≡ fault_line (NotInGrammar name.now fault.line fault.kind) }
+    ensures count { length result ≡ 8 }
+{
+    [
+        Piece::Text("yew: "),
+        Piece::Name(name),
+        Piece::Text(": line "),
+        Piece::Number(fault.line),
+        Piece::Text(": "),
+        Piece::Text(fault_text(fault.kind)),
+        Piece::Text("\n"),
+        Piece::Text(""),
+    ]
+}
+
+/// The pieces of the line of a full audit.
+fn full_line<'a>(worker: u32, entries: u64, numbers: u64) -> [Piece<'a>; 8]
+    ensures text { flat_map piece_text result ≡ fault_line (FullAudit worker entries numbers) }
+    ensures count { length result ≡ 8 }
+{
+    [
+        Piece::Text("yew: worker "),
+        Piece::Number(worker as u64),
+        Piece::Text(": audit full at "),
+        Piece::Number(entries),
+        Piece::Text(" entries and "),
+        Piece::Number(numbers),
+        Piece::Text(" numbers"),
+        Piece::Text("\n"),
+    ]
+}
+
 /// The pieces of the line of a refusal.
-fn pieces_of<'a>(refusal: Refusal<'a>) -> [Piece<'a>; 7]
+fn pieces_of<'a>(refusal: Refusal<'a>) -> [Piece<'a>; 8]
     ensures text { flat_map piece_text result ≡ fault_line (reason_of refusal.entry) }
-    ensures count { length result ≡ 7 }
+    ensures count { length result ≡ 8 }
 {
     let none = Piece::Text("");
     let start = Piece::Text("yew: ");
@@ -102,73 +166,33 @@ fn pieces_of<'a>(refusal: Refusal<'a>) -> [Piece<'a>; 7]
     let colon = Piece::Text(": ");
     match refusal {
         Refusal::Usage(usage) => {
+            let word = Piece::Text("word ");
             let place = Piece::Number(usage.place as u64);
             let kind = Piece::Text(usage_text(usage.kind));
-            [start, Piece::Text("word "), place, colon, kind, end, none]
+            [start, word, place, colon, kind, end, none, none]
         }
-        Refusal::NotBuilt => [start, Piece::Text("not built"), end, none, none, none, none],
-        Refusal::ReadFault(name) => {
-            [
-                start,
-                Piece::Name(name),
-                Piece::Text(": read fault"),
-                end,
-                none,
-                none,
-                none,
-            ]
-        }
-        Refusal::NotInGrammar(name, fault) => {
-            let line = Piece::Number(fault.line);
-            let kind = Piece::Text(fault_text(fault.kind));
-            [
-                start,
-                Piece::Name(name),
-                Piece::Text(": line "),
-                line,
-                colon,
-                kind,
-                end,
-            ]
-        }
-        Refusal::TooLong(name) => {
-            let past = Piece::Text(": longer than 16777216 bytes");
-            [start, Piece::Name(name), past, end, none, none, none]
-        }
+        Refusal::NotBuilt => text_line("not built"),
+        Refusal::ReadFault(name) => name_line(name, ": read fault"),
+        Refusal::NotInGrammar(name, fault) => grammar_line(name, fault),
+        Refusal::TooLong(name) => name_line(name, ": longer than 16777216 bytes"),
         Refusal::TooLarge {
             name,
             number,
             limit,
         } => {
+            let file = Piece::Name(name);
+            let number = Piece::Number(number);
             let past = Piece::Text(" is past ");
-            [
-                start,
-                Piece::Name(name),
-                colon,
-                Piece::Number(number),
-                past,
-                Piece::Number(limit),
-                end,
-            ]
+            let limit = Piece::Number(limit);
+            [start, file, colon, number, past, limit, end, none]
         }
-        Refusal::WriteFault => [
-            start,
-            Piece::Text("write fault"),
-            end,
-            none,
-            none,
-            none,
-            none,
-        ],
-        Refusal::Memory => [
-            start,
-            Piece::Text("out of memory"),
-            end,
-            none,
-            none,
-            none,
-            none,
-        ],
+        Refusal::WriteFault => text_line("write fault"),
+        Refusal::Memory => text_line("out of memory"),
+        Refusal::AuditFull {
+            worker,
+            entries,
+            numbers,
+        } => full_line(worker, entries, numbers),
     }
 }
 

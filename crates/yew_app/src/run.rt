@@ -1,53 +1,19 @@
 //! The top call: from the words, the files and the sinks to the status.
 
-ghost use Rattle.std.specs.Prelude.{◌≡◌, ◌≢◌, ◌≤◌, ◌⊎◌, ◌^◌, true, List, ℕ, IfSome, IfOk, IfErr, IsErrAnd, IsOk, Some};
+ghost use Rattle.std.specs.Prelude.{◌≡◌, ◌≢◌, ◌≤◌, ◌⊎◌, true, List, ℕ, IfSome, IfOk, IfErr, IsErrAnd, IsOk, Some};
 ghost use Rattle.yew_io.specs.Faults.{Rose};
-ghost use Rattle.yew_words.specs.Word.{texts};
-ghost use Rattle.std.specs.Option.{ForSome};
-ghost use Rattle.yew_app.specs.Knapsacks as knapsacks;
-ghost use Rattle.yew_app.specs.Reasons.{reason_of};
 ghost use Rattle.yew_io.specs.Sink.{Appends, AppendsPrefix};
-ghost use Rattle.yew_app.specs.Refusals.{Reason, CannotRead, NoMemory, fault_line, status_of};
-ghost use Rattle.yew_app.specs.Runs.{Answers, RefusesWords, RefusesFiles, IsFine, IsCause};
-ghost use Rattle.yew_app.specs.Outcomes.{outside, WritesAnswer, IsRefused, SaysWords, SaysFiles, IsComplete};
+ghost use Rattle.yew_words.specs.Word.{texts};
+ghost use Rattle.yew_app.specs.Outcomes.{outside, WritesAnswer, IsRefused, SaysWords, SaysFiles, SaysAudit, IsComplete};
+ghost use Rattle.yew_app.specs.Reasons.{reason_of};
+ghost use Rattle.yew_app.specs.Refusals.{Reason, CannotRead, NoMemory, IsFullOrMemory, fault_line, status_of};
+ghost use Rattle.yew_app.specs.Runs.{Answers, RefusesWords, RefusesFiles, FillsAudit, IsFine, IsCause};
 
-use crate::knapsack::knapsack_text;
-use crate::plan::{only_file, read_plain};
-use crate::reading::read_knapsack;
+use crate::plan::read_plain;
 use crate::refusal::{Refusal, write_fault_line};
-use crate::semigroups::semigroups_text;
+use crate::solve::solve;
 use std::alloc::Global;
 use yew_io::{Failed, Shelf, Sink, write_whole};
-use yew_words::Job;
-
-/// The whole text of the answer to the knapsack file of that name, or why there is none.
-fn solve_knapsack<'a, S: Shelf<'a>>(
-    alloc: Global,
-    shelf: &mut S,
-    name: &'a str,
-    target: Option<u64>,
-) -> Result<Vec<u8>, Refusal<'a>>
-    requires { ForSome target (λ least. least ≤ 1099511627774) }
-    ensures answers { IfOk result (λ text. IfSome (S.files shelf.old) (λ told. knapsacks.IsAnswered told name.now target text.items)) }
-    ensures refused { IfErr result (λ refusal. knapsacks.IsReason (S.files shelf.old) name.now (reason_of refusal)) }
-    ensures cause { IsErrAnd result (λ refusal. reason_of refusal ≡ CannotRead name.now) → Rose (S.faults shelf.old) (S.faults shelf.new) × (S.failed shelf.new ≡ true) }
-    ensures each_reason { ¬ Rose (S.faults shelf.old) (S.faults shelf.new) → IfSome (S.files shelf.old) (λ told.
-        (reason : Reason) → knapsacks.IsRefused told name.now reason → IsErrAnd result (λ refusal. (reason_of refusal ≡ reason) ⊎ (reason_of refusal ≡ NoMemory))) }
-    ensures fine { ¬ Rose (S.faults shelf.old) (S.faults shelf.new) → IfSome (S.files shelf.old) (λ told.
-        knapsacks.IsFine told name.now → IsOk result ⊎ IsErrAnd result (λ refusal. reason_of refusal ≡ NoMemory)) }
-    ensures name { S.name shelf.new ≡ Some name.now }
-    ensures files { S.files shelf.new ≡ S.files shelf.old }
-    ensures counted { S.faults shelf.old ≤ S.faults shelf.new }
-{
-    let problem = match read_knapsack(alloc, shelf, name) {
-        Ok(problem) => problem,
-        Err(refusal) => return Err(refusal),
-    };
-    match knapsack_text(alloc, &problem, target) {
-        Ok(text) => Ok(text),
-        Err(_) => Err(Refusal::Memory),
-    }
-}
 
 /// The whole text that the words ask for, or why there is none.
 fn text_of<'a, S: Shelf<'a>>(
@@ -62,6 +28,8 @@ fn text_of<'a, S: Shelf<'a>>(
     ensures words_refused { (reason : Reason) → RefusesWords (texts words.now) reason → IsErrAnd result (λ refusal. reason_of refusal ≡ reason) }
     ensures files_refused { ¬ Rose (S.faults shelf.old) (S.faults shelf.new) → IfSome (S.files shelf.old) (λ told.
         (reason : Reason) → RefusesFiles (texts words.now) told reason → IsErrAnd result (λ refusal. (reason_of refusal ≡ reason) ⊎ (reason_of refusal ≡ NoMemory))) }
+    ensures audit_full { ¬ Rose (S.faults shelf.old) (S.faults shelf.new) → IfSome (S.files shelf.old) (λ told.
+        FillsAudit (texts words.now) told → IsErrAnd result (λ refusal. IsFullOrMemory (reason_of refusal))) }
     ensures fine { ¬ Rose (S.faults shelf.old) (S.faults shelf.new) → IfSome (S.files shelf.old) (λ told.
         IsFine (texts words.now) told → IsOk result ⊎ IsErrAnd result (λ refusal. reason_of refusal ≡ NoMemory)) }
     ensures files { S.files shelf.new ≡ S.files shelf.old }
@@ -71,16 +39,9 @@ fn text_of<'a, S: Shelf<'a>>(
         Ok(plan) => plan,
         Err(refusal) => return Err(refusal),
     };
-    match plan.job {
-        Job::Knapsack => match solve_knapsack(alloc, shelf, only_file(&plan), plan.target) {
-            Ok(text) => Ok(text),
-            Err(refusal) => Err(refusal),
-        },
-        Job::Semigroups => match semigroups_text(alloc, plan.genus) {
-            Ok(text) => Ok(text),
-            Err(_) => Err(Refusal::Memory),
-        },
-        Job::Tsp | Job::Subgraph | Job::Make(_) => unreachable!(),
+    match solve(alloc, shelf, &plan) {
+        Ok(text) => Ok(text),
+        Err(refusal) => Err(refusal),
     }
 }
 
@@ -114,6 +75,7 @@ pub fn run_plain<'a, S: Shelf<'a>, K: Sink, E: Sink>(
     ensures refused { result ≢ 0 → IsRefused (texts words.now) (outside S.Shelf K.Sink E.Sink shelf.old out.old err.old) (outside S.Shelf K.Sink E.Sink shelf.new out.new err.new) result }
     ensures words_refused { SaysWords (texts words.now) (outside S.Shelf K.Sink E.Sink shelf.old out.old err.old) (outside S.Shelf K.Sink E.Sink shelf.new out.new err.new) result }
     ensures files_refused { SaysFiles (texts words.now) (outside S.Shelf K.Sink E.Sink shelf.old out.old err.old) (outside S.Shelf K.Sink E.Sink shelf.new out.new err.new) result }
+    ensures audit_full { SaysAudit (texts words.now) (outside S.Shelf K.Sink E.Sink shelf.old out.old err.old) (outside S.Shelf K.Sink E.Sink shelf.new out.new err.new) result }
     ensures complete { IsComplete (texts words.now) (outside S.Shelf K.Sink E.Sink shelf.old out.old err.old) (outside S.Shelf K.Sink E.Sink shelf.new out.new err.new) result }
     ensures files { S.files shelf.new ≡ S.files shelf.old }
 {

@@ -1,10 +1,11 @@
 use Rattle.std.proofs.Common.{◌≡◌, ◌⊎◌, refl, subst, ap, ◌∙◌, inl, inr, ⊎_elim}
 use Rattle.yew_words.specs.Word.{texts}
 use Rattle.yew_app.specs.Reasons.{reason_of}
-use Rattle.yew_app.specs.Refusals.{Reason, NoMemory, CannotWrite, status_of}
-use Rattle.yew_app.specs.Runs.{RefusesFiles}
+use Rattle.yew_app.specs.Refusals.{Reason, NoMemory, CannotWrite, IsFullOrMemory, status_of}
+use Rattle.yew_app.specs.Runs.{RefusesFiles, FillsAudit}
 use Rattle.yew_app.specs.Outcomes.{outside, Says}
 use Rattle.yew_app.proofs.Causes.{has-cause}
+use Rattle.yew_app.proofs.FullAudits.{full-says}
 use Rattle.yew_app.proofs.Serving.{map_told}
 use Rattle.yew_app.proofs.run.run_plain.Goals as goal
 
@@ -62,3 +63,26 @@ returns-clause-refused g c = λ not_zero. (
         (reason_of c.in-Err.refusal) c.in-Err.ensures.cause c.in-Err.ensures.read_fault refl;
   },
 )
+
+pub returns-in-Ok-write_whole-clause-audit_full : goal.returns-in-Ok-write_whole-clause-audit_full
+returns-in-Ok-write_whole-clause-audit_full g c = λ no_fault.
+    map_told (g.S.Shelf.files c.args.shelf.now)
+    (λ told. FillsAudit (texts c.args.words.now) told → ⊥) _
+    (λ told none fills. absurd (none fills)) (c.in-Ok.ensures.audit_full no_fault)
+
+pub returns-in-Ok-clause-audit_full : goal.returns-in-Ok-clause-audit_full
+returns-in-Ok-clause-audit_full g c = λ no_fault.
+    map_told (g.S.Shelf.files c.args.shelf.now)
+    (λ told. FillsAudit (texts c.args.words.now) told → ⊥) _
+    (λ told none fills. absurd (none fills)) (c.in-Ok.ensures.audit_full no_fault)
+
+pub returns-clause-audit_full : goal.returns-clause-audit_full
+returns-clause-audit_full g c = λ no_fault.
+    let reason_is = reason_of c.in-Err.refusal in
+    let before = outside g.S.Shelf g.K.Sink g.E.Sink c.args.shelf.now c.args.out.now c.args.err.now in
+    let after = outside g.S.Shelf g.K.Sink g.E.Sink c.text_of.new.shelf c.args.out.now c.refuse-in-Err.new.sink in
+    let says : Says before after c.refuse-in-Err.result reason_is = record { status_is = c.refuse-in-Err.ensures.status; prefix = c.refuse-in-Err.ensures.prefix; whole = c.refuse-in-Err.ensures.whole } in
+    map_told (g.S.Shelf.files c.args.shelf.now)
+    (λ told. FillsAudit (texts c.args.words.now) told → IsFullOrMemory reason_is) _
+    (λ told full fills. full-says (texts c.args.words.now) (g.S.Shelf.files c.args.shelf.now) before after c.refuse-in-Err.result reason_is (full fills) c.in-Err.ensures.cause says)
+    (c.in-Err.ensures.audit_full no_fault)

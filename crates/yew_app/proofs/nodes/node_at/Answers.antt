@@ -1,8 +1,8 @@
 use Rattle.std.proofs.Common.{None}
 use Rattle.yew_laws.specs.SearchTree.{search_tree, at_path}
 use Rattle.yew_walk.proofs.Bests.{rebuilt-IsSome}
-use Rattle.yew_app.proofs.Found.{some_of}
-use Rattle.yew_app.proofs.knapsack.node_at.Goals as goal
+use Rattle.yew_app.proofs.FoundNodes.{some_of}
+use Rattle.yew_app.proofs.nodes.node_at.Goals as goal
 
 pub unreachable-requires : goal.unreachable-requires
 unreachable-requires g c =

@@ -1,0 +1,265 @@
+-- The one log of a sequential search is the logs of a whole search, and it fits where the tree is not large.
+use Rattle.std.proofs.Common.{◌≡◌, ℕ, zero, suc, ◌+◌, ◌*◌, ◌≤◌, ◌<◌, ◌⊎◌, inl, inr, List, [], ◌∷◌, ◌++◌, max, length, drop, Bool, true, false, Option, Some, None, nat_le, nat_lt, if◌then◌else◌, refl, ap, sym, subst, ◌∙◌, append-nil, arith, leb-true, leb-false}
+use Rattle.std.specs.Prelude.{IfSome, Contains, option_and_then}
+use Rattle.std.specs.List.{AllByRecursion, flat_map, sum_by}
+use Rattle.std.proofs.lemmas.List.Elements.{Contains-append_left}
+use Rattle.std.proofs.lemmas.List.Sums.{sum_by-append, sum_by-cons}
+use Rattle.yew_laws.specs.Bag.{SameBag}
+use Rattle.yew_laws.specs.Cover.{Cover}
+use Rattle.yew_laws.specs.Greatest.{first_best}
+use Rattle.yew_laws.specs.Incumbent.{Incumbent, improved}
+use Rattle.yew_laws.specs.SearchTree.{SearchTree, at_path, below, numbered, tree_paths}
+use Rattle.yew_laws.specs.Tree.{IsBounded, IsRanked}
+use Rattle.yew_laws.proofs.Bags.{same-is}
+use Rattle.yew_laws.proofs.Below.{below-unfolds, child-at}
+use Rattle.yew_laws.proofs.Members.{AllByRecursion-append, AllByRecursion-weaker, Contains-head, Contains-tail}
+use Rattle.yew_laws.proofs.Steps.{drop_from_drop}
+use Rattle.yew_log.specs.Attained.{Attained, limit}
+use Rattle.yew_log.specs.AuditFull.{IsLarge, MeetsLimits}
+use Rattle.yew_log.specs.Groups.{sequential}
+use Rattle.yew_log.specs.Items.{in_turn}
+use Rattle.yew_log.specs.Notes.{Note, taken, visited, cut, spawned, handed, ended, Judgement, path_of, visits, cuts, values, maximum, judgement_in, taken_paths, sent_paths, visited_paths, cut_paths}
+use Rattle.yew_log.specs.Places.{AtEach}
+use Rattle.yew_log.specs.SeqLog.{visited_worth, visit_notes, seq_log}
+use Rattle.yew_log.specs.WholeSearch.{AreLogs, IsBestVisit, joined}
+use Rattle.yew_log.proofs.Growth.{worths-append}
+use Rattle.yew_log.proofs.Places.{AtEach-weaker}
+use Rattle.yew_log.proofs.SeqLaws.{Exact, Part, visit-part}
+use Rattle.yew_log.proofs.SeqLawful.{seq_log-lawful}
+use Rattle.yew_walk.specs.declared.keying.Keying.TheVariants.{Plain}
+use Rattle.yew_walk.specs.Hands.{best_after}
+use Rattle.yew_walk.specs.Keys.{answer_key}
+use Rattle.yew_walk.proofs.BestVisits.{answer_key-plain, best_after-worth, best_after-seq_log}
+use Rattle.yew_app.specs.Texts.{first_node}
+
+-- one more number in front of numbers whose greatest is 0 or one of them
+attained-push : (n : ℕ) (ns : List ℕ) → (maximum ns ≡ 0) ⊎ Contains ns (maximum ns) → (max n (maximum ns) ≡ 0) ⊎ Contains (n ∷ ns) (max n (maximum ns))
+attained-push n ns rest = by (nat_le (maximum ns) n) refl rest
+  where
+    by : (v : Bool) → nat_le (maximum ns) n ≡ v → (maximum ns ≡ 0) ⊎ Contains ns (maximum ns) → (max n (maximum ns) ≡ 0) ⊎ Contains (n ∷ ns) (max n (maximum ns))
+    by true x r =
+        let le : maximum ns ≤ n = leb-true (maximum ns) n x in
+        let same : n ≡ max n (maximum ns) = omega (arith, le) in
+        inr (subst (Contains (n ∷ ns)) same (Contains-head n ns))
+    by false x (inl none) = let above : n < maximum ns = leb-false (maximum ns) n x in absurd (omega (arith, above, none))
+    by false x (inr there) =
+        let above : n < maximum ns = leb-false (maximum ns) n x in
+        let same : maximum ns ≡ max n (maximum ns) = omega (arith, above) in
+        inr (subst (Contains (n ∷ ns)) same (Contains-tail n ns (maximum ns) there))
+
+-- the greatest of some numbers is 0 or one of them
+maximum-attained : (ns : List ℕ) → (maximum ns ≡ 0) ⊎ Contains ns (maximum ns)
+maximum-attained [] = inl refl
+maximum-attained (n ∷ ns) = attained-push n ns (maximum-attained ns)
+
+-- a held value is 0 or the worth of one of these visits
+abbrev IsAttained : List Note → Judgement → Type 0
+IsAttained notes j = (j.held ≡ 0) ⊎ Contains (values (visits notes)) j.held
+
+-- the greatest worth of the earlier visits is that of one of all visits
+exact-attained : (before rest : List Note) (j : Judgement) → Exact before j → IsAttained (before ++ rest) j
+exact-attained before rest j exact = by (maximum-attained (values (visits before)))
+  where
+    by : (maximum (values (visits before)) ≡ 0) ⊎ Contains (values (visits before)) (maximum (values (visits before))) → IsAttained (before ++ rest) j
+    by (inl none) = inl (exact ∙ none)
+    by (inr there) = inr (subst (λ ws. Contains ws j.held) (sym (worths-append before rest))
+        (Contains-append_left (values (visits before)) (values (visits rest)) j.held (subst (Contains (values (visits before))) (sym exact) there)))
+
+-- what holds of each visit and each cut at its place holds of the visits and of the cuts
+flat : (P : Judgement → Type 0) (before notes : List Note) → AtEach (λ b n a. AllByRecursion P (judgement_in n)) before notes → AllByRecursion P (visits notes) × AllByRecursion P (cuts notes)
+flat P before [] a = (tt, tt)
+flat P before (visited p w h ∷ ns) a = let r = flat P (before ++ visited p w h ∷ []) ns a.1 in ((a.0.0, r.0), r.1)
+flat P before (cut p w h ∷ ns) a = let r = flat P (before ++ cut p w h ∷ []) ns a.1 in (r.0, (a.0.0, r.1))
+flat P before (taken p ∷ ns) a = flat P (before ++ taken p ∷ []) ns a.1
+flat P before (spawned p ∷ ns) a = flat P (before ++ spawned p ∷ []) ns a.1
+flat P before (handed p ∷ ns) a = flat P (before ++ handed p ∷ []) ns a.1
+flat P before (ended p ∷ ns) a = flat P (before ++ ended p ∷ []) ns a.1
+
+-- where each held value is the greatest worth of the earlier visits, each is 0 or the worth of a visit
+all-attained : (before notes : List Note) → AtEach (λ b n a. AllByRecursion (Exact b) (judgement_in n)) before notes → AllByRecursion (IsAttained (before ++ notes)) (visits notes ++ cuts notes)
+all-attained before notes exact =
+    let whole = before ++ notes in
+    let both = flat (IsAttained whole) before notes
+    (AtEach-weaker (λ b n a. AllByRecursion (Exact b) (judgement_in n)) (λ b n a. AllByRecursion (IsAttained whole) (judgement_in n)) whole before notes refl
+    (λ b n a e. AllByRecursion-weaker (Exact b) (IsAttained whole) (λ j x. subst (λ ns. IsAttained ns j) e (exact-attained b (n ∷ a) j x)) (judgement_in n))
+    exact) in
+    AllByRecursion-append (IsAttained whole) (visits notes) (cuts notes) both.0 both.1
+
+-- the incumbent of one visit
+abbrev incumbent_at : Judgement → Incumbent
+incumbent_at visit = record { worth = visit.value; path = Some visit.path }
+
+-- an incumbent that is that of one of these visits
+record IsOfVisit (vs : List Judgement) (incumbent : Incumbent) : Type 0 where
+  pub visit : Judgement
+  pub there : Contains vs visit
+  pub is : incumbent ≡ incumbent_at visit
+
+improved-cases : (incumbent : Incumbent) (visit : Judgement) → (improved incumbent visit.value visit.path ≡ incumbent) ⊎ (improved incumbent visit.value visit.path ≡ incumbent_at visit)
+improved-cases incumbent visit =
+    elim (nat_lt incumbent.worth visit.value) as (λ b. ((if b then incumbent_at visit else incumbent) ≡ incumbent) ⊎ ((if b then incumbent_at visit else incumbent) ≡ incumbent_at visit)) [ true ↦ inr refl | false ↦ inl refl ]
+
+-- a visit before the others: the best of all is what was there before, that visit, or one of the others
+cases-push : (incumbent next : Incumbent) (v : Judgement) (vs : List Judgement) → next ≡ improved incumbent v.value v.path → (best_after Plain next vs ≡ next) ⊎ IsOfVisit vs (best_after Plain next vs) → (best_after Plain next vs ≡ incumbent) ⊎ IsOfVisit (v ∷ vs) (best_after Plain next vs)
+cases-push incumbent next v vs next_is (inr f) = inr (record { visit = f.visit; there = Contains-tail v vs f.visit f.there; is = f.is })
+cases-push incumbent next v vs next_is (inl e) = by (improved-cases incumbent v)
+  where
+    by : (improved incumbent v.value v.path ≡ incumbent) ⊎ (improved incumbent v.value v.path ≡ incumbent_at v) → (best_after Plain next vs ≡ incumbent) ⊎ IsOfVisit (v ∷ vs) (best_after Plain next vs)
+    by (inl kept) = inl (e ∙ next_is ∙ kept)
+    by (inr new) = inr (record { visit = v; there = Contains-head v vs; is = e ∙ next_is ∙ new })
+
+-- the best of some visits is what was there before or one of them
+best_after-cases : (incumbent : Incumbent) (vs : List Judgement) → (best_after Plain incumbent vs ≡ incumbent) ⊎ IsOfVisit vs (best_after Plain incumbent vs)
+best_after-cases incumbent [] = inl refl
+best_after-cases incumbent (v ∷ vs) =
+    let next = improved incumbent (answer_key Plain v.value) v.path in
+    let next_is : next ≡ improved incumbent v.value v.path = ap (λ key. improved incumbent key v.path) (answer_key-plain v.value) in
+    cases-push incumbent next v vs next_is (best_after-cases next vs)
+
+module _ {N : Type 0} (t : SearchTree N) where
+  -- the root is visited first
+  root-visited : (levels : ℕ) → Contains (visited_paths (visit_notes t 0 levels [] t.root 0)) []
+  root-visited zero = Contains-head [] []
+  root-visited (suc levels) = Contains-head [] (visited_paths (in_turn visited_worth (λ p c h. if nat_le (t.bound c) (limit 0 h) then cut p (t.bound c) h ∷ [] else visit_notes t 0 levels p c h) [] 0 (t.children t.root) (max 0 (t.worth t.root)) ++ ended [] ∷ []))
+
+  -- the node at the path of a visit of the greatest worth
+  node-best : (notes : List Note) (visit : Judgement) → Contains (visits notes) visit → visit.value ≡ maximum (values (visits notes)) → (found : Option N) → at_path t visit.path ≡ found → IfSome found (IsBestVisit t notes)
+  node-best notes visit there greatest_is None e = tt
+  node-best notes visit there greatest_is (Some n) e = record { visit = visit; visited = there; node_there = e; greatest = greatest_is }
+
+  module _ {sound : N → Type 0} (ranked : IsRanked sound t.children t.rank) (bounded : IsBounded sound t.children t.worth t.bound) (root : sound t.root) where
+    -- the first best node stands at a visit of the greatest worth
+    first_node-best : IfSome (first_node t) (IsBestVisit t (seq_log t 0))
+    first_node-best = by (best_after-cases (record { worth = 0; path = None }) (visits (seq_log t 0)))
+      where
+        by : (best_after Plain (record { worth = 0; path = None }) (visits (seq_log t 0)) ≡ record { worth = 0; path = None }) ⊎ IsOfVisit (visits (seq_log t 0)) (best_after Plain (record { worth = 0; path = None }) (visits (seq_log t 0))) → IfSome (first_node t) (IsBestVisit t (seq_log t 0))
+        by (inl e) =
+            let none : first_best t ≡ None = ap (λ (i : Incumbent). i.path) (sym (best_after-seq_log t ranked bounded root) ∙ e) in
+            subst (λ (o : Option (List ℕ)). IfSome (option_and_then (λ path. at_path t path) o) (IsBestVisit t (seq_log t 0))) (sym none) tt
+        by (inr f) =
+            let some : first_best t ≡ Some f.visit.path = ap (λ (i : Incumbent). i.path) (sym (best_after-seq_log t ranked bounded root) ∙ f.is) in
+            let worth = ap (λ (i : Incumbent). i.worth) f.is in
+            let most = best_after-worth (record { worth = 0; path = None }) (visits (seq_log t 0)) in
+            subst (λ (o : Option (List ℕ)). IfSome (option_and_then (λ path. at_path t path) o) (IsBestVisit t (seq_log t 0))) (sym some)
+            (node-best (seq_log t 0) f.visit f.there (omega (arith, worth, most)) (at_path t f.visit.path) refl)
+
+    -- what holds of the entries behind the Taken entry
+    body-part : Part t 0 [] 0 (visit_notes t 0 (t.rank t.root) [] t.root 0)
+    body-part = visit-part t 0 ranked (t.rank t.root) [] t.root 0 refl root (omega arith) (λ ne. absurd (ne refl))
+
+    seq_log-tasks : SameBag (taken_paths (seq_log t 0)) ([] ∷ sent_paths (seq_log t 0))
+    seq_log-tasks = same-is (ap (λ (ps : List (List ℕ)). [] ∷ ps) (body-part.is_made.untaken ∙ sym body-part.is_made.unsent))
+
+    seq_log-cover : Cover t (visited_paths (seq_log t 0)) (cut_paths (seq_log t 0))
+    seq_log-cover =
+        let notes = visit_notes t 0 (t.rank t.root) [] t.root 0 in
+        record {
+          root_visited = root-visited (t.rank t.root);
+          each_once = subst (λ ps. SameBag (visited_paths notes ++ flat_map (below t) ps) (tree_paths t))
+              (ap (λ ps. cut_paths notes ++ ps) body-part.is_made.unsent ∙ append-nil (cut_paths notes))
+              body-part.all_covered;
+        }
+
+    seq_log-attained : Attained t 0 (visits (seq_log t 0)) (cuts (seq_log t 0))
+    seq_log-attained =
+        let notes = visit_notes t 0 (t.rank t.root) [] t.root 0 in
+        record {
+          worths = body-part.is_made.valued.worths;
+          bounds = body-part.is_made.valued.bounds;
+          permitted = body-part.is_made.permitted;
+          attained = all-attained (taken [] ∷ []) notes (body-part.is_made.exact (taken [] ∷ []) refl);
+        }
+
+    -- the one sequential log is the logs of a whole search
+    pub seq_log-are_logs : AreLogs t 0 sequential 1 (seq_log t 0 ∷ []) (first_node t)
+    seq_log-are_logs =
+        let is : seq_log t 0 ≡ joined (seq_log t 0 ∷ []) = sym (append-nil (seq_log t 0)) in
+        record {
+          one_each = refl;
+          lawful = (seq_log-lawful t 0 ranked root, tt);
+          tasks = subst (λ ns. SameBag (taken_paths ns) ([] ∷ sent_paths ns)) is seq_log-tasks;
+          cover = subst (λ ns. Cover t (visited_paths ns) (cut_paths ns)) is seq_log-cover;
+          attained = subst (λ ns. Attained t 0 (visits ns) (cuts ns)) is seq_log-attained;
+          best = subst (λ ns. IfSome (first_node t) (IsBestVisit t ns)) is first_node-best;
+        }
+
+-- what the paths of these entries weigh together
+abbrev total : (List ℕ → ℕ) → List Note → ℕ
+total w notes = sum_by (λ note. w (path_of note)) notes
+
+total-ones : {X : Type 0} (xs : List X) → sum_by (λ x. 1) xs ≡ length xs
+total-ones [] = refl
+total-ones (x ∷ xs) = let a = sum_by-cons (λ y. 1) x xs in let r = total-ones xs in a ∙ omega arith
+
+module _ {N : Type 0} (t : SearchTree N) {sound : N → Type 0} (ranked : IsRanked sound t.children t.rank) (w : List ℕ → ℕ) where
+  -- the paths at and below a node weigh what its path and those below its children weigh
+  below-weighs : (path : List ℕ) (n : N) → at_path t path ≡ Some n → sound n → sum_by w (below t path) ≡ w path + sum_by w (flat_map (below t) (numbered path 0 (t.children n)))
+  below-weighs path n e s = ap (sum_by w) (below-unfolds t ranked path n e s) ∙ sum_by-cons w path (flat_map (below t) (numbered path 0 (t.children n)))
+
+  -- a node whose children's entries stand inside
+  closed-weighs : (path : List ℕ) (n : N) (worth held : ℕ) (inside : List Note) → at_path t path ≡ Some n → sound n → total w inside ≤ 2 * sum_by w (flat_map (below t) (numbered path 0 (t.children n))) → total w (visited path worth held ∷ inside ++ ended path ∷ []) ≤ 2 * sum_by w (below t path)
+  closed-weighs path n worth held inside e s le =
+      let a = sum_by-cons (λ note. w (path_of note)) (visited path worth held) (inside ++ ended path ∷ []) in
+      let b = sum_by-append (λ note. w (path_of note)) inside (ended path ∷ []) in
+      let c = sum_by-cons (λ note. w (path_of note)) (ended path) [] in
+      let d = below-weighs path n e s in
+      omega (arith, a, b, c, d, le)
+
+  cut-weighs : (path : List ℕ) (n : N) (bound held : ℕ) → at_path t path ≡ Some n → sound n → total w (cut path bound held ∷ []) ≤ 2 * sum_by w (below t path)
+  cut-weighs path n bound held e s =
+      let c = sum_by-cons (λ note. w (path_of note)) (cut path bound held) [] in
+      let d = below-weighs path n e s in
+      omega (arith, c, d)
+
+  module _ (levels : ℕ) (made : List ℕ → N → ℕ → List Note) (each : (path : List ℕ) (c : N) (held : ℕ) → at_path t path ≡ Some c → sound c → t.rank c ≤ levels → total w (made path c held) ≤ 2 * sum_by w (below t path)) where
+    in_turn-weighs : (path : List ℕ) (n : N) → at_path t path ≡ Some n → (k : ℕ) (cs : List N) (held : ℕ) → drop k (t.children n) ≡ cs → AllByRecursion sound cs → AllByRecursion (λ c. t.rank c ≤ levels) cs → total w (in_turn visited_worth made path k cs held) ≤ 2 * sum_by w (flat_map (below t) (numbered path k cs))
+    in_turn-weighs path n e k [] held d s r = omega arith
+    in_turn-weighs path n e k (c ∷ cs) held d s r =
+        let first = made (path ++ k ∷ []) c held in
+        let others = in_turn visited_worth made path (suc k) cs (max held (visited_worth first)) in
+        let here = each (path ++ k ∷ []) c held (child-at t path n e k c cs d) s.0 r.0 in
+        let rest = in_turn-weighs path n e (suc k) cs (max held (visited_worth first)) (drop_from_drop (t.children n) k c cs d) s.1 r.1 in
+        let a = sum_by-append (λ note. w (path_of note)) first others in
+        let b = sum_by-append w (below t (path ++ k ∷ [])) (flat_map (below t) (numbered path (suc k) cs)) in
+        omega (arith, here, rest, a, b)
+
+  -- a child, which is cut or visited
+  child-weighs : (levels : ℕ) → ((path : List ℕ) (n : N) (held : ℕ) → at_path t path ≡ Some n → sound n → t.rank n ≤ levels → total w (visit_notes t 0 levels path n held) ≤ 2 * sum_by w (below t path)) → (p : List ℕ) (c : N) (h : ℕ) → at_path t p ≡ Some c → sound c → t.rank c ≤ levels → total w (if nat_le (t.bound c) (limit 0 h) then cut p (t.bound c) h ∷ [] else visit_notes t 0 levels p c h) ≤ 2 * sum_by w (below t p)
+  child-weighs levels visit p c h e s r =
+      elim (nat_le (t.bound c) (limit 0 h)) as (λ b. total w (if b then cut p (t.bound c) h ∷ [] else visit_notes t 0 levels p c h) ≤ 2 * sum_by w (below t p)) [
+        | true ↦ cut-weighs p c (t.bound c) h e s
+        | false ↦ visit p c h e s r
+      ]
+
+  -- of each path at or below a node there are at most two entries
+  visit_notes-weighs : (levels : ℕ) (path : List ℕ) (n : N) (held : ℕ) → at_path t path ≡ Some n → sound n → t.rank n ≤ levels → total w (visit_notes t 0 levels path n held) ≤ 2 * sum_by w (below t path)
+  visit_notes-weighs zero path n held e s low = closed-weighs path n (t.worth n) held [] e s (omega arith)
+  visit_notes-weighs (suc levels) path n held e s low =
+      let made : List ℕ → N → ℕ → List Note = λ p c h. if nat_le (t.bound c) (limit 0 h) then cut p (t.bound c) h ∷ [] else visit_notes t 0 levels p c h in
+      closed-weighs path n (t.worth n) held (in_turn visited_worth made path 0 (t.children n) (max held (t.worth n))) e s
+      (in_turn-weighs levels made (child-weighs levels (visit_notes-weighs levels)) path n e 0 (t.children n) (max held (t.worth n)) refl (ranked.stays_sound n s)
+      (AllByRecursion-weaker (λ c. t.rank c < t.rank n) (λ c. t.rank c ≤ levels) (λ c l. omega (arith, l, low)) (t.children n) (ranked.rank_falls n s)))
+
+  -- however paths are weighed, the one log weighs at most three times what the tree weighs
+  seq_log-weighs : sound t.root → total w (seq_log t 0) ≤ 3 * sum_by w (tree_paths t)
+  seq_log-weighs root =
+      let a = sum_by-cons (λ note. w (path_of note)) (taken []) (visit_notes t 0 (t.rank t.root) [] t.root 0) in
+      let b = visit_notes-weighs (t.rank t.root) [] t.root 0 refl root (omega arith) in
+      let c = below-weighs [] t.root refl root in
+      omega (arith, a, b, c)
+
+module _ {N : Type 0} (t : SearchTree N) {sound : N → Type 0} (ranked : IsRanked sound t.children t.rank) (root : sound t.root) where
+  -- a log that meets the limits is of a large tree
+  pub limits-large : MeetsLimits (seq_log t 0) → IsLarge t
+  limits-large (inl many) =
+      let a = seq_log-weighs t ranked (λ p. 1) root in
+      let b = total-ones (seq_log t 0) in
+      let c = total-ones (tree_paths t) in
+      inl (omega (arith, a, b, c, many))
+  limits-large (inr long) =
+      let a = seq_log-weighs t ranked (λ p. length p) root in
+      inr (omega (arith, a, long))
+
+  -- where the tree is not large its one log is within the limits
+  pub large-or-fits : ¬ IsLarge t → ¬ MeetsLimits (seq_log t 0)
+  large-or-fits small meets = small (limits-large meets)
