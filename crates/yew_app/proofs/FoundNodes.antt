@@ -18,7 +18,3 @@ module _ {N : Type 0} (t : SearchTree N) where
   -- it stands at the first best path
   pub first_node-some : (path : List ℕ) (node : N) → first_best t ≡ Some path → at_path t path ≡ Some node → first_node t ≡ Some node
   first_node-some path node first at = ap (option_and_then (λ p. at_path t p)) first ∙ at
-
-  -- and there is none where there is no such path
-  pub first_node-none : first_best t ≡ None → first_node t ≡ None
-  first_node-none first = ap (option_and_then (λ p. at_path t p)) first

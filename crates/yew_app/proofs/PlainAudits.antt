@@ -15,7 +15,6 @@ use Rattle.yew_laws.proofs.Below.{below-unfolds, child-at}
 use Rattle.yew_laws.proofs.Members.{AllByRecursion-append, AllByRecursion-weaker, Contains-head, Contains-tail}
 use Rattle.yew_laws.proofs.Steps.{drop_from_drop}
 use Rattle.yew_log.specs.Attained.{Attained, limit}
-use Rattle.yew_log.specs.AuditFull.{IsLarge, MeetsLimits}
 use Rattle.yew_log.specs.Groups.{sequential}
 use Rattle.yew_log.specs.Items.{in_turn}
 use Rattle.yew_log.specs.Notes.{Note, taken, visited, cut, spawned, handed, ended, Judgement, path_of, visits, cuts, values, maximum, judgement_in, taken_paths, sent_paths, visited_paths, cut_paths}
@@ -247,19 +246,3 @@ module _ {N : Type 0} (t : SearchTree N) {sound : N → Type 0} (ranked : IsRank
       let b = visit_notes-weighs (t.rank t.root) [] t.root 0 refl root (omega arith) in
       let c = below-weighs [] t.root refl root in
       omega (arith, a, b, c)
-
-module _ {N : Type 0} (t : SearchTree N) {sound : N → Type 0} (ranked : IsRanked sound t.children t.rank) (root : sound t.root) where
-  -- a log that meets the limits is of a large tree
-  pub limits-large : MeetsLimits (seq_log t 0) → IsLarge t
-  limits-large (inl many) =
-      let a = seq_log-weighs t ranked (λ p. 1) root in
-      let b = total-ones (seq_log t 0) in
-      let c = total-ones (tree_paths t) in
-      inl (omega (arith, a, b, c, many))
-  limits-large (inr long) =
-      let a = seq_log-weighs t ranked (λ p. length p) root in
-      inr (omega (arith, a, long))
-
-  -- where the tree is not large its one log is within the limits
-  pub large-or-fits : ¬ IsLarge t → ¬ MeetsLimits (seq_log t 0)
-  large-or-fits small meets = small (limits-large meets)

@@ -1,5 +1,5 @@
 -- The text behind an answer is that of the one sequential log.
-use Rattle.std.proofs.Common.{◌≡◌, ℕ, List, [], ◌∷◌, ◌++◌, length, Bool, true, false, Some, inl, inr, refl, ap, sym, subst, ◌∙◌, arith, append-nil}
+use Rattle.std.proofs.Common.{◌≡◌, ℕ, List, [], ◌∷◌, ◌++◌, Bool, true, false, Some, inl, inr, refl, ap, sym, subst, ◌∙◌, arith, append-nil}
 use Rattle.std.specs.Prelude.{if◌then◌else◌}
 use Rattle.yew_laws.specs.SearchTree.{SearchTree}
 use Rattle.yew_log.specs.declared.entry.Totals.{Totals}
@@ -18,9 +18,6 @@ module _ {N : Type 0} (t : SearchTree N) where
   one-log view [] h = absurd h
   one-log view (log ∷ []) h = (log, (refl, h))
   one-log view (log ∷ second ∷ more) h = absurd h
-
-  pub one-length : {R : Type 0} (view : R → LogView) (logs : List R) → HasPlainLog t view logs → length logs ≡ 1
-  one-length view logs h = ap length (one-log view logs h).1.0
 
   -- the totals of the one log are those of all logs
   totals-all : (log : LogView) → IsPlainLog t log → log.totals ≡ all_totals (seq_log t 0 ∷ [])

@@ -64,11 +64,6 @@ module _ {X N : Type 0} (Reads : List File → X → Type 0) (one : (told : List
       (λ told read fine. absurd (fine.2 stops.0 (subst (λ y. MeetsLimits (seq_log (tree y) 0)) (one told x fine.0 read fine.1) (full-meets (tree x) entries numbers stops.1.1))))
       reads
 
-  -- and why it was stopped, where the files are told
-  pub stopped-full : (files : Option (List File)) (x : X) (worker entries numbers : ℕ) → StopsSearch (tree x) audit (AuditFull worker entries numbers) → IfSome files (λ told. Reads told x) → IfSome files (λ told. (y : X) × Reads told y × IsAuditFull (tree y) 0 sequential 1 entries numbers)
-  stopped-full files x worker entries numbers stops reads =
-      map_told files (λ told. Reads told x) (λ told. (y : X) × Reads told y × IsAuditFull (tree y) 0 sequential 1 entries numbers) (λ told read. (x, read, stops.1.1)) reads
-
 -- a search is stopped where its audit is full, or memory ran out
 pub stopped-reason : {N : Type 0} (t : SearchTree N) (audit : Bool) (fault : SearchFault) → StopsSearch t audit fault → IsFullOrMemory (search_reason fault)
 stopped-reason t audit Memory stops = tt
