@@ -1,6 +1,6 @@
 //! The path of a node: the number of a child at each step from the root.
 
-ghost use Rattle.std.specs.Prelude.{◌≡◌, ◌+◌, ◌<◌, ◌≤◌, ◌^◌, List, [], ◌∷◌, ◌++◌, length, IfOk};
+ghost use Rattle.std.specs.Prelude.{◌≡◌, ◌+◌, ◌<◌, ◌≤◌, ◌^◌, List, [], ◌∷◌, ◌++◌, length, take, IfOk, OnOk};
 
 use crate::memory::Memory;
 use std::alloc::Global;
@@ -59,6 +59,7 @@ impl Path {
     }
 
     /// Makes the numbers of this path those of `other`. The space stays, and no memory is taken.
+    #[inline(always)]
     pub fn set(&mut self, other: &Path)
         requires { length other.now.numbers ≤ self.old.space }
         ensures numbers { self.new.numbers ≡ other.now.numbers }
@@ -71,19 +72,65 @@ impl Path {
     }
 
     /// Makes this path that of child `number` of the node at `parent`. The space stays, and no memory is taken.
+    #[inline(always)]
     pub fn set_child(&mut self, parent: &Path, number: u32)
         requires { length parent.now.numbers < self.old.space }
         ensures numbers { self.new.numbers ≡ parent.now.numbers ++ number ∷ [] }
         ensures space { self.new.space ≡ self.old.space }
     {
-        self.steps.clear();
-        self.steps
-            .extend_from_slice(parent.steps.as_slice())
-            .unwrap();
+        self.set(parent);
+        self.push(number);
+    }
+
+    /// The path of child `number` of the node at the first `depth` steps of this path.
+    pub fn child_of_prefix(&self, depth: usize, number: u32) -> Result<Path, Memory>
+        requires { depth ≤ length self.now.numbers }
+        ensures { IfOk result (λ path. path.numbers ≡ take depth self.now.numbers ++ number ∷ []) }
+    {
+        let prefix = &self.steps[..depth];
+        let room = prefix.len() + 1;
+        let mut steps = Vec::with_capacity(*self.steps.allocator(), room)?;
+        steps.extend_from_slice(prefix)?;
+        steps.push(number)?;
+        Ok(Path { steps, room })
+    }
+
+    /// Makes room for one more step. The numbers stay.
+    #[inline(always)]
+    pub fn make_room(&mut self) -> Result<(), Memory>
+        ensures numbers { self.new.numbers ≡ self.old.numbers }
+        ensures room { OnOk result (length self.new.numbers < self.new.space) }
+        ensures space { self.old.space ≤ self.new.space }
+    {
+        let needed = self.steps.len() + 1;
+        if self.room < needed {
+            self.steps.reserve(1)?;
+            self.room = needed;
+        }
+        Ok(())
+    }
+
+    /// Takes one more step, for which there is room. The space stays, and no memory is taken.
+    #[inline(always)]
+    pub fn push(&mut self, number: u32)
+        requires { length self.old.numbers < self.old.space }
+        ensures numbers { self.new.numbers ≡ self.old.numbers ++ number ∷ [] }
+        ensures space { self.new.space ≡ self.old.space }
+    {
         self.steps.push(number).unwrap();
     }
 
+    /// Keeps the first `depth` steps alone. The space stays.
+    #[inline(always)]
+    pub fn truncate(&mut self, depth: usize)
+        ensures numbers { self.new.numbers ≡ take depth self.old.numbers }
+        ensures space { self.new.space ≡ self.old.space }
+    {
+        self.steps.truncate(depth);
+    }
+
     /// The numbers of the steps, that of the root's child first.
+    #[inline(always)]
     pub fn numbers(&self) -> &[u32]
         ensures value { result.now ≡ self.now.numbers }
         ensures within { length self.now.numbers ≤ self.now.space }
@@ -92,6 +139,7 @@ impl Path {
     }
 
     /// How many steps this path can hold without taking memory.
+    #[inline(always)]
     pub fn space(&self) -> usize
         ensures { result ≡ self.now.space }
     {

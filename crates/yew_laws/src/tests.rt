@@ -24,5 +24,13 @@ fn paths_grow_and_compare(rt: HostRuntime) -> Result<(), Fail> {
         kept.set_child(&three, 1);
         assert_eq!(rt; kept.numbers(), [3, 1].as_slice());
     }
+
+    let mut along = deep.child_of_prefix(1, 5)?;
+    assert_eq!(rt; along.numbers(), [3, 5].as_slice());
+    along.make_room()?;
+    along.push(8);
+    assert_eq!(rt; along.numbers(), [3, 5, 8].as_slice());
+    along.truncate(1);
+    assert_eq!(rt; along.numbers(), [3].as_slice());
     Ok(())
 }
