@@ -9,6 +9,7 @@ use Rattle.yew_laws.specs.Tree.{Member, forest, prefixed, node_at, IsRanked}
 use Rattle.yew_laws.specs.SearchTree.{numbered, IsTask}
 use Rattle.yew_laws.specs.declared.problem.Problem.{Ghosts}
 use Rattle.yew_laws.specs.declared.problem.Task.{Task}
+use Rattle.yew_laws.proofs.Bags.{same-is}
 use Rattle.yew_laws.proofs.Incumbents.{prefixed-forest}
 use Rattle.yew_laws.proofs.Members.{AllByRecursion-append, AllByRecursion-at, AllByRecursion-weaker}
 use Rattle.yew_laws.proofs.Trees.{node_at-child}
@@ -228,6 +229,18 @@ module _ {S N K : Type 0} (meaning : Ghosts S N K) (problem : S) where
             (λ task at. record { is_sound = at.is_sound; found = at.found })
             m.moves.moved still.tasks),
       )
+
+  -- where no tasks were moved
+  none-appended : (before after : List (Task S N K)) → after ≡ before → appended before after ≡ []
+  none-appended before after kept = ap (drop (length before)) (kept ∙ sym (append-nil before)) ∙ drop-append_seam before []
+
+  pub none-to_come : (old new : List (LevelValue K)) (before after : List (Task S N K)) → seen new ≡ seen old → after ≡ before → SameBag (to_come meaning problem old) (to_come meaning problem new ++ flat_map (task_members meaning problem) (appended before after))
+  none-to_come old new before after same kept =
+      let trees = node_tree meaning problem in
+      same-is (sym (ap₂ (λ (ls : List (LevelView N)) (tasks : List (Task S N K)). levels_to_come trees ls ++ flat_map (task_members meaning problem) tasks) same (none-appended before after kept) ∙ append-nil (to_come meaning problem old)))
+
+  pub none-open : (old new : List (LevelValue K)) (before after : List (Task S N K)) → seen new ≡ seen old → after ≡ before → AllOpen meaning problem old → AllOpen meaning problem new × AllByRecursion IsTaskHere (appended before after)
+  none-open old new before after same kept all = (subst (AllByRecursion Open) (sym same) all, subst (AllByRecursion IsTaskHere) (sym (none-appended before after kept)) tt)
 
   -- what a turn that gives a node leaves
   pub gives-to_come : (old new : List (LevelValue K)) (task : Task S N K) → TopGives (seen old) task.path.numbers task.node (seen new) → to_come meaning problem old ≡ task_members meaning problem task ++ to_come meaning problem new

@@ -1,3 +1,4 @@
+pub mod Along
 pub mod Coming
 pub mod Moving
 pub mod Places

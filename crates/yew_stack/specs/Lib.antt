@@ -1,3 +1,4 @@
+pub mod Descents
 pub mod Fan
 pub mod Levels
 pub mod Splits

@@ -26,7 +26,7 @@ impl<P: Problem> Model for Level<P> {
 }
 
 /// A path with room for a child of the node at `parent`: a spare one where its space serves, else a new one.
-#[inline]
+#[inline(always)]
 fn path_for_child(spares: &mut Vec<Path>, parent: &Path, number: u32) -> Result<Path, Memory>
     ensures { IfOk result (λ path. length parent.now.numbers < path.space) }
 {
@@ -42,7 +42,7 @@ fn path_for_child(spares: &mut Vec<Path>, parent: &Path, number: u32) -> Result<
 }
 
 /// Keeps a path as a spare, where the list has room for it.
-#[inline]
+#[inline(always)]
 pub fn keep_spare(spares: &mut Vec<Path>, path: Path)
     ensures { spares.new.items ≡ (if nat_lt (vec_len spares.old) (vec_capacity spares.old) then spares.old.items ++ path ∷ [] else spares.old.items) }
 {
@@ -55,7 +55,7 @@ impl<P: Problem> Level<P> {
     ghost use Rattle.yew_stack.specs.Splits.{GivesTo, MovesTo, IsChunk};
 
     /// A level of which nothing is given yet.
-    #[inline]
+    #[inline(always)]
     pub fn new(parent: Path, kids: P::Kids) -> Level<P>
         ensures { result ≡ record { parent = parent.numbers; given = 0; kids = kids } }
     {
@@ -67,7 +67,7 @@ impl<P: Problem> Level<P> {
     }
 
     /// The path of the level's node.
-    #[inline]
+    #[inline(always)]
     pub fn into_parent(self) -> Path
         ensures { result.numbers ≡ self.parent }
     {
@@ -80,7 +80,7 @@ impl<P: Problem> Level<P> {
     }
 
     /// The next child, as a task. Its path is made before the generator is asked, so that no child is lost.
-    #[inline]
+    #[inline(always)]
     pub fn advance(
         &mut self,
         alloc: Global,

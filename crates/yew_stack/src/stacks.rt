@@ -63,7 +63,7 @@ impl<P: Problem> GenStack<P> {
     }
 
     /// Adds a level on top, of which nothing is given yet. After `Memory` the levels are unchanged.
-    #[inline]
+    #[inline(always)]
     pub fn push_level(&mut self, path: Path, kids: P::Kids) -> Result<(), Memory>
         ensures ok { OnOk result (self.new ≡ self.old ++ record { parent = path.numbers; given = 0; kids = kids } ∷ []) }
         ensures err { OnErr result (self.new ≡ self.old) }
@@ -78,7 +78,7 @@ impl<P: Problem> GenStack<P> {
 
     /// Takes a path that is no longer needed, for a child that is still to come. The levels stay as they are, and no
     /// memory is taken.
-    #[inline]
+    #[inline(always)]
     pub fn reuse(&mut self, path: Path)
         ensures { self.new ≡ self.old }
     {
@@ -86,7 +86,7 @@ impl<P: Problem> GenStack<P> {
     }
 
     /// The next node of the top level, or the end of that level. After `Memory` the levels are unchanged.
-    #[inline]
+    #[inline(always)]
     pub fn next(&mut self, alloc: Global, problem: &P) -> Result<Turn<P>, Memory>
         requires root { P.sound problem.now (P.root problem.now) }
         requires sound { AreSound (P.sound problem.now) (levels (P.remaining problem.now) self.old) }
