@@ -20,7 +20,7 @@ pub struct Hand<S> {
 
 impl<S: Drop> Hand<S> {
     /// Takes the worth of a visited node into account. The path is copied only where the key is greater.
-    #[inline]
+    #[inline(always)]
     pub(crate) fn keep(&mut self, keying: Keying, worth: u64, path: &Path)
         requires keying { IsKeying keying }
         requires worth { worth < 2 ^ 40 }

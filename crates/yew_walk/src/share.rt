@@ -14,10 +14,10 @@ use crate::policy::{Act, Event, Policy};
 use std::alloc::Global;
 use yew_laws::{Path, Problem, Task};
 use yew_log::{LogEnd, Recorder, What};
-use yew_stack::{Chunk, GenStack};
+use yew_stack::{Chunk, Descent};
 
 /// Records an entry. After a refusal the log is unchanged.
-#[inline]
+#[inline(always)]
 pub(crate) fn note<R: Recorder>(
     log: &mut R,
     what: What,
@@ -68,13 +68,13 @@ fn share<P: Problem, O: Outlet<P>, R: Recorder>(
     what: What,
     outlet: &mut O,
     log: &mut R,
-    stack: &mut GenStack<P>,
+    stack: &mut Descent<P>,
 ) -> Result<(), SearchFault>
     requires root { P.sound problem.now (P.root problem.now) }
     requires outlet { O.problem outlet.old ≡ problem.now }
-    requires levels_open { AllOpen P.Problem problem.now stack.old }
-    ensures ok { OnOk result (IsShared P.Problem problem.now chunk what stack.old (log_view (R.told log.old) (R.totals log.old) (R.number log.old)) (O.sent outlet.old) stack.new (log_view (R.told log.new) (R.totals log.new) (R.number log.new)) (O.sent outlet.new)) }
-    ensures err { IfErr result (λ fault. StopsSharing P.Problem problem.now what fault stack.old (log_view (R.told log.old) (R.totals log.old) (R.number log.old)) (O.sent outlet.old) stack.new (log_view (R.told log.new) (R.totals log.new) (R.number log.new)) (O.sent outlet.new)) }
+    requires levels_open { AllOpen P.Problem problem.now stack.old.levels }
+    ensures ok { OnOk result (IsShared P.Problem problem.now chunk what stack.old.levels (log_view (R.told log.old) (R.totals log.old) (R.number log.old)) (O.sent outlet.old) stack.new.levels (log_view (R.told log.new) (R.totals log.new) (R.number log.new)) (O.sent outlet.new)) }
+    ensures err { IfErr result (λ fault. StopsSharing P.Problem problem.now what fault stack.old.levels (log_view (R.told log.old) (R.totals log.old) (R.number log.old)) (O.sent outlet.old) stack.new.levels (log_view (R.told log.new) (R.totals log.new) (R.number log.new)) (O.sent outlet.new)) }
     ensures answers { O.answers outlet.new ≡ O.answers outlet.old }
     ensures problem { O.problem outlet.new ≡ O.problem outlet.old }
     ensures kept { O.kept outlet.old outlet.new }
@@ -96,25 +96,25 @@ fn share<P: Problem, O: Outlet<P>, R: Recorder>(
 }
 
 /// Asks the policy after an event at a depth, and does what it asks for.
-#[inline]
+#[inline(always)]
 pub(crate) fn ask<P: Problem, Q: Policy, O: Outlet<P>, R: Recorder>(
     alloc: Global,
     problem: &P,
     policy: &mut Q,
     outlet: &mut O,
     log: &mut R,
-    stack: &mut GenStack<P>,
+    stack: &mut Descent<P>,
     event: Event,
     depth: u32,
 ) -> Result<(), SearchFault>
     requires root { P.sound problem.now (P.root problem.now) }
     requires outlet { O.problem outlet.old ≡ problem.now }
-    requires levels_open { AllOpen P.Problem problem.now stack.old }
+    requires levels_open { AllOpen P.Problem problem.now stack.old.levels }
     ensures ok { OnOk result ((wanted : Bool) × (O.answers outlet.new ≡ option_map (λ given. given ++ wanted ∷ []) (O.answers outlet.old))
-        × IsAsked P.Problem problem.now Q.meaning (input_of event depth wanted) policy.old stack.old (log_view (R.told log.old) (R.totals log.old) (R.number log.old)) (O.sent outlet.old)
-        policy.new stack.new (log_view (R.told log.new) (R.totals log.new) (R.number log.new)) (O.sent outlet.new)) }
+        × IsAsked P.Problem problem.now Q.meaning (input_of event depth wanted) policy.old stack.old.levels (log_view (R.told log.old) (R.totals log.old) (R.number log.old)) (O.sent outlet.old)
+        policy.new stack.new.levels (log_view (R.told log.new) (R.totals log.new) (R.number log.new)) (O.sent outlet.new)) }
     ensures err { IfErr result (λ fault. (wanted : Bool) × StopsAsking P.Problem problem.now Q.meaning (input_of event depth wanted) fault policy.old
-        stack.old (log_view (R.told log.old) (R.totals log.old) (R.number log.old)) (O.sent outlet.old) stack.new (log_view (R.told log.new) (R.totals log.new) (R.number log.new)) (O.sent outlet.new)) }
+        stack.old.levels (log_view (R.told log.old) (R.totals log.old) (R.number log.old)) (O.sent outlet.old) stack.new.levels (log_view (R.told log.new) (R.totals log.new) (R.number log.new)) (O.sent outlet.new)) }
     ensures problem { O.problem outlet.new ≡ O.problem outlet.old }
     ensures kept { O.kept outlet.old outlet.new }
     ensures later { OnOk result (O.later outlet.old outlet.new) }

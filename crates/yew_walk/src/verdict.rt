@@ -7,7 +7,7 @@ ghost use Rattle.yew_walk.specs.Verdicts.{IsVerdict};
 
 use crate::keying::Keying;
 use yew_best::{Best, BestSeat};
-use yew_laws::{Problem, Task};
+use yew_laws::{Path, Problem, Task};
 
 /// What becomes of a node. `read` is the worth that was held when its fate was decided.
 #[derive(Clone, Copy, Debug, PartialEq, Eq)]
@@ -21,7 +21,7 @@ pub enum Verdict {
 /// Decides whether a node is visited or cut off, by one load of the incumbent word: it is cut off exactly where the key
 /// of its bound is at most the word, but the root, which has the empty path, is always visited. A visit offers the key
 /// of its worth. It takes no memory.
-#[inline]
+#[inline(always)]
 pub fn consider<P: Problem>(
     problem: &P,
     best: &Best,
@@ -35,15 +35,34 @@ pub fn consider<P: Problem>(
     requires keying { IsKeying keying }
     ensures { IsVerdict P.Problem problem.now keying task.now.path.numbers task.now.node result seat.old seat.new }
 {
+    judge(problem, best, seat, keying, &task.path, &task.node)
+}
+
+/// Considers the node at a path.
+#[inline(always)]
+pub(crate) fn judge<P: Problem>(
+    problem: &P,
+    best: &Best,
+    seat: &mut BestSeat,
+    keying: Keying,
+    path: &Path,
+    node: &P::Node,
+) -> Verdict
+    requires root { P.sound problem.now (P.root problem.now) }
+    requires task { IsTask P.Problem problem.now path.now.numbers node.now }
+    requires seat { seat.old.best ≡ best.now }
+    requires keying { IsKeying keying }
+    ensures { IsVerdict P.Problem problem.now keying path.now.numbers node.now result seat.old seat.new }
+{
     let word = best.read(seat);
     let read = keying.held(word);
-    if !task.path.numbers().is_empty() {
-        let bound = problem.bound(&task.node);
+    if !path.numbers().is_empty() {
+        let bound = problem.bound(node);
         if keying.key(bound) <= word {
             return Verdict::Cut { bound, read };
         }
     }
-    let worth = problem.worth(&task.node);
+    let worth = problem.worth(node);
     let _ = best.raise(seat, keying.key(worth));
     Verdict::Visit { worth, read }
 }

@@ -2,6 +2,7 @@
 
 ghost use Rattle.std.specs.Prelude.{◌≡◌, ℕ, ◌<◌, ◌≤◌, List, [], IfOk, IfErr, OnOk, MatchBool};
 ghost use Rattle.yew_laws.specs.SearchTree.{IsTask};
+ghost use Rattle.yew_stack.specs.Descents.{IsAtNode};
 ghost use Rattle.yew_stack.specs.ToCome.{turns_left, AllOpen};
 ghost use Rattle.yew_walk.specs.Entering.{Enters, StopsEntering};
 ghost use Rattle.yew_walk.specs.Keys.{IsKeying};
@@ -14,69 +15,66 @@ use crate::keying::Keying;
 use crate::outlet::Outlet;
 use crate::policy::{Event, Policy};
 use crate::share::{ask, note};
-use crate::verdict::{Verdict, consider};
+use crate::verdict::{Verdict, judge};
 use std::alloc::Global;
 use yew_best::{Best, BestSeat};
 use yew_kinds::Tally;
 use yew_laws::{Problem, Task};
 use yew_log::{Recorder, What};
-use yew_stack::{GenStack, Turn};
+use yew_stack::{Descent, Step};
 
-/// Visits a node or cuts it off, and records it. A visited node is taken into account, and its children are a new level.
-#[inline]
+/// Visits the node at which the descent stands or cuts it off, and records it. A visited node is taken into account, and
+/// its children are a new level.
+#[inline(always)]
 fn enter<P: Problem, T: Tally<P::Node>, R: Recorder>(
     alloc: Global,
     problem: &P,
-    task: Task<P>,
+    node: P::Node,
     best: &Best,
     seat: &mut BestSeat,
     keying: Keying,
     tally: &T,
     hand: &mut Hand<T::Sum>,
     log: &mut R,
-    stack: &mut GenStack<P>,
+    stack: &mut Descent<P>,
 ) -> Result<Event, SearchFault>
     requires root { P.sound problem.now (P.root problem.now) }
-    requires task { IsTask P.Problem problem.now task.path.numbers task.node }
+    requires task { IsTask P.Problem problem.now stack.old.path node }
+    requires stands { IsAtNode stack.old }
     requires seat { seat.old.best ≡ best.now }
     requires keying { IsKeying keying }
     requires space { 65535 ≤ hand.old.path.space }
     requires fits { T.fits tally.now hand.old.sum }
-    ensures ok { IfOk result (λ event. Enters P.Problem problem.now keying task.path.numbers task.node (T.join tally.now) (T.of tally.now) event
-        seat.old hand.old (log_view (R.told log.old) (R.totals log.old) (R.number log.old)) stack.old
-        seat.new hand.new (log_view (R.told log.new) (R.totals log.new) (R.number log.new)) stack.new) }
+    ensures ok { IfOk result (λ event. Enters P.Problem problem.now keying stack.old.path node (T.join tally.now) (T.of tally.now) event
+        seat.old hand.old (log_view (R.told log.old) (R.totals log.old) (R.number log.old)) stack.old.levels
+        seat.new hand.new (log_view (R.told log.new) (R.totals log.new) (R.number log.new)) stack.new.levels) }
     ensures within { OnOk result (IsWithin (R.told log.new)) }
-    ensures err { IfErr result (λ fault. StopsEntering P.Problem problem.now keying task.path.numbers task.node fault
+    ensures err { IfErr result (λ fault. StopsEntering P.Problem problem.now keying stack.old.path node fault
         seat.old (log_view (R.told log.old) (R.totals log.old) (R.number log.old)) seat.new (log_view (R.told log.new) (R.totals log.new) (R.number log.new))) }
     ensures seat { seat.new.best ≡ seat.old.best }
     ensures share { seat.new.share ≡ seat.old.share }
-    ensures levels_open { OnOk result (AllOpen P.Problem problem.now stack.old → AllOpen P.Problem problem.now stack.new) }
+    ensures levels_open { OnOk result (AllOpen P.Problem problem.now stack.old.levels → AllOpen P.Problem problem.now stack.new.levels) }
     ensures space { hand.new.path.space ≡ hand.old.path.space }
     ensures fits { T.fits tally.now hand.new.sum }
 {
-    match consider(problem, best, seat, keying, &task) {
-        Verdict::Cut { bound, read } => {
-            match note(log, What::Cut, &task.path, bound, read) {
-                Ok(()) => {}
-                Err(fault) => return Err(fault),
-            }
-            stack.reuse(task.path);
-            Ok(Event::CutOff)
-        }
+    match judge(problem, best, seat, keying, stack.path(), &node) {
+        Verdict::Cut { bound, read } => match note(log, What::Cut, stack.path(), bound, read) {
+            Ok(()) => Ok(Event::CutOff),
+            Err(fault) => Err(fault),
+        },
         Verdict::Visit { worth, read } => {
-            match note(log, What::Visited, &task.path, worth, read) {
+            match note(log, What::Visited, stack.path(), worth, read) {
                 Ok(()) => {}
                 Err(fault) => return Err(fault),
             }
-            let depth = task.path.numbers().len() as u32;
-            tally.note(&mut hand.sum, &task.node, depth);
-            hand.keep(keying, worth, &task.path);
-            let Task { path, node } = task;
+            let depth = stack.path().numbers().len() as u32;
+            tally.note(&mut hand.sum, &node, depth);
+            hand.keep(keying, worth, stack.path());
             let kids = match problem.open(alloc, node) {
                 Ok(kids) => kids,
                 Err(_) => return Err(SearchFault::Memory),
             };
-            match stack.push_level(path, kids) {
+            match stack.open(kids) {
                 Ok(()) => Ok(Event::Visited),
                 Err(_) => Err(SearchFault::Memory),
             }
@@ -86,7 +84,7 @@ fn enter<P: Problem, T: Tally<P::Node>, R: Recorder>(
 
 /// One turn of a walk: the highest level gives a node, which is visited or cut off, or it ends; and then the policy is
 /// asked. Answers whether there was a level.
-#[inline]
+#[inline(always)]
 fn turn<P: Problem, Q: Policy, O: Outlet<P>, T: Tally<P::Node>, R: Recorder>(
     alloc: Global,
     problem: &P,
@@ -98,7 +96,7 @@ fn turn<P: Problem, Q: Policy, O: Outlet<P>, T: Tally<P::Node>, R: Recorder>(
     tally: &T,
     hand: &mut Hand<T::Sum>,
     log: &mut R,
-    stack: &mut GenStack<P>,
+    stack: &mut Descent<P>,
 ) -> Result<bool, SearchFault>
     requires root { P.sound problem.now (P.root problem.now) }
     requires seat { seat.old.best ≡ best.now }
@@ -106,19 +104,19 @@ fn turn<P: Problem, Q: Policy, O: Outlet<P>, T: Tally<P::Node>, R: Recorder>(
     requires outlet { O.problem outlet.old ≡ problem.now }
     requires space { 65535 ≤ hand.old.path.space }
     requires fits { T.fits tally.now hand.old.sum }
-    requires levels_open { AllOpen P.Problem problem.now stack.old }
+    requires levels_open { AllOpen P.Problem problem.now stack.old.levels }
     ensures ok { OnOk result ((task : List ℕ) (first : Scene P P.Node P.Kids T.Sum Q) →
         IsWalking P.Problem problem.now keying (T.join tally.now) (T.of tally.now) Q.meaning task first
-        (scene seat.old hand.old policy.old (O.sent outlet.old) (O.answers outlet.old) (log_view (R.told log.old) (R.totals log.old) (R.number log.old))) stack.old
+        (scene seat.old hand.old policy.old (O.sent outlet.old) (O.answers outlet.old) (log_view (R.told log.old) (R.totals log.old) (R.number log.old))) stack.old.levels
         → IsWalking P.Problem problem.now keying (T.join tally.now) (T.of tally.now) Q.meaning task first
-        (scene seat.new hand.new policy.new (O.sent outlet.new) (O.answers outlet.new) (log_view (R.told log.new) (R.totals log.new) (R.number log.new))) stack.new) }
+        (scene seat.new hand.new policy.new (O.sent outlet.new) (O.answers outlet.new) (log_view (R.told log.new) (R.totals log.new) (R.number log.new))) stack.new.levels) }
     ensures err { IfErr result (λ fault. (task : List ℕ) (first : Scene P P.Node P.Kids T.Sum Q) →
         IsWalking P.Problem problem.now keying (T.join tally.now) (T.of tally.now) Q.meaning task first
-        (scene seat.old hand.old policy.old (O.sent outlet.old) (O.answers outlet.old) (log_view (R.told log.old) (R.totals log.old) (R.number log.old))) stack.old
+        (scene seat.old hand.old policy.old (O.sent outlet.old) (O.answers outlet.old) (log_view (R.told log.old) (R.totals log.old) (R.number log.old))) stack.old.levels
         → IsRefused P.Problem problem.now keying (T.join tally.now) (T.of tally.now) Q.meaning task first
         (scene seat.new hand.new policy.new (O.sent outlet.new) (O.answers outlet.new) (log_view (R.told log.new) (R.totals log.new) (R.number log.new))) fault) }
-    ensures more { IfOk result (λ more. MatchBool more (turns_left P.Problem problem.now stack.new < turns_left P.Problem problem.now stack.old) (stack.new ≡ [])) }
-    ensures levels_open { OnOk result (AllOpen P.Problem problem.now stack.new) }
+    ensures more { IfOk result (λ more. MatchBool more (turns_left P.Problem problem.now stack.new.levels < turns_left P.Problem problem.now stack.old.levels) (stack.new.levels ≡ [])) }
+    ensures levels_open { OnOk result (AllOpen P.Problem problem.now stack.new.levels) }
     ensures seat { seat.new.best ≡ seat.old.best }
     ensures share { seat.new.share ≡ seat.old.share }
     ensures space { hand.new.path.space ≡ hand.old.path.space }
@@ -128,10 +126,10 @@ fn turn<P: Problem, Q: Policy, O: Outlet<P>, T: Tally<P::Node>, R: Recorder>(
     ensures later { OnOk result (O.later outlet.old outlet.new) }
 {
     match stack.next(alloc, problem) {
-        Ok(Turn::Node(task)) => {
-            let depth = task.path.numbers().len() as u32;
+        Ok(Step::Node(node)) => {
+            let depth = stack.path().numbers().len() as u32;
             let event = match enter(
-                alloc, problem, task, best, seat, keying, tally, hand, log, stack,
+                alloc, problem, node, best, seat, keying, tally, hand, log, stack,
             ) {
                 Ok(event) => event,
                 Err(fault) => return Err(fault),
@@ -141,13 +139,12 @@ fn turn<P: Problem, Q: Policy, O: Outlet<P>, T: Tally<P::Node>, R: Recorder>(
                 Err(fault) => Err(fault),
             }
         }
-        Ok(Turn::Ended(path)) => {
-            let depth = path.numbers().len() as u32;
-            match note(log, What::Ended, &path, 0, 0) {
+        Ok(Step::Ended) => {
+            let depth = stack.path().numbers().len() as u32;
+            match note(log, What::Ended, stack.path(), 0, 0) {
                 Ok(()) => {}
                 Err(fault) => return Err(fault),
             }
-            stack.reuse(path);
             match ask(
                 alloc,
                 problem,
@@ -162,7 +159,7 @@ fn turn<P: Problem, Q: Policy, O: Outlet<P>, T: Tally<P::Node>, R: Recorder>(
                 Err(fault) => Err(fault),
             }
         }
-        Ok(Turn::Empty) => Ok(false),
+        Ok(Step::Empty) => Ok(false),
         Err(_) => Err(SearchFault::Memory),
     }
 }
@@ -211,10 +208,11 @@ pub fn walk<P: Problem, Q: Policy, O: Outlet<P>, T: Tally<P::Node>, R: Recorder>
         Err(fault) => return Err(fault),
     }
     policy.start();
-    let mut stack = GenStack::new(alloc);
-    let depth = task.path.numbers().len() as u32;
+    let Task { path, node } = task;
+    let depth = path.numbers().len() as u32;
+    let mut stack = Descent::new(alloc, path);
     let event = match enter(
-        alloc, problem, task, best, seat, keying, tally, hand, log, &mut stack,
+        alloc, problem, node, best, seat, keying, tally, hand, log, &mut stack,
     ) {
         Ok(event) => event,
         Err(fault) => return Err(fault),

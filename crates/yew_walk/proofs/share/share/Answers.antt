@@ -11,7 +11,7 @@ use Rattle.yew_walk.proofs.share.share.Goals as goal
 pub returns-in-Err-note_all-clause-err : goal.returns-in-Err-note_all-clause-err
 returns-in-Err-note_all-clause-err g c = record {
   tasks = c.split_lowest.new.into.items;
-  is_off = splits-off g.P.Problem c.args.problem.now c.args.chunk c.args.stack.now c.split_lowest.new.self c.new-tasks.result.items c.split_lowest.new.into.items c.new-tasks.ensures.items c.in-Ok.ensures.ok c.in-Ok.ensures.to_come (c.in-Ok.ensures.levels_open c.requires.levels_open);
+  is_off = splits-off g.P.Problem c.args.problem.now c.args.chunk c.args.stack.now.levels c.split_lowest.new.self.levels c.new-tasks.result.items c.split_lowest.new.into.items c.new-tasks.ensures.items c.in-Ok.ensures.ok c.in-Ok.ensures.to_come (c.in-Ok.ensures.levels_open c.requires.levels_open);
   noting = rw c.as_slice.ensures.value at c.in-Err-note_all.ensures.err;
   sent_are = inl refl;
 }
@@ -24,8 +24,8 @@ send-requires g c =
 pub returns-in-Ok-send-clause-ok : goal.returns-in-Ok-send-clause-ok
 returns-in-Ok-send-clause-ok g c = record {
   tasks = c.split_lowest.new.into.items;
-  is_off = splits-off g.P.Problem c.args.problem.now c.args.chunk c.args.stack.now c.split_lowest.new.self c.new-tasks.result.items c.split_lowest.new.into.items c.new-tasks.ensures.items c.in-Ok.ensures.ok c.in-Ok.ensures.to_come (c.in-Ok.ensures.levels_open c.requires.levels_open);
-  splits = subst (λ b. Splits c.args.chunk (levels (g.P.Problem.remaining c.args.problem.now) c.args.stack.now) b c.split_lowest.new.into.items (levels (g.P.Problem.remaining c.args.problem.now) c.split_lowest.new.self)) c.new-tasks.ensures.items c.in-Ok.ensures.ok;
+  is_off = splits-off g.P.Problem c.args.problem.now c.args.chunk c.args.stack.now.levels c.split_lowest.new.self.levels c.new-tasks.result.items c.split_lowest.new.into.items c.new-tasks.ensures.items c.in-Ok.ensures.ok c.in-Ok.ensures.to_come (c.in-Ok.ensures.levels_open c.requires.levels_open);
+  splits = subst (λ b. Splits c.args.chunk (levels (g.P.Problem.remaining c.args.problem.now) c.args.stack.now.levels) b c.split_lowest.new.into.items (levels (g.P.Problem.remaining c.args.problem.now) c.split_lowest.new.self.levels)) c.new-tasks.ensures.items c.in-Ok.ensures.ok;
   log_is = rw c.as_slice.ensures.value at c.in-Ok-note_all.ensures.ok;
   within = c.in-Ok-note_all.ensures.within;
   sent_are = c.in-Ok-send.ensures.ok;
@@ -34,7 +34,7 @@ returns-in-Ok-send-clause-ok g c = record {
 pub returns-in-Err-send-clause-err : goal.returns-in-Err-send-clause-err
 returns-in-Err-send-clause-err g c = record {
   tasks = c.split_lowest.new.into.items;
-  is_off = splits-off g.P.Problem c.args.problem.now c.args.chunk c.args.stack.now c.split_lowest.new.self c.new-tasks.result.items c.split_lowest.new.into.items c.new-tasks.ensures.items c.in-Ok.ensures.ok c.in-Ok.ensures.to_come (c.in-Ok.ensures.levels_open c.requires.levels_open);
+  is_off = splits-off g.P.Problem c.args.problem.now c.args.chunk c.args.stack.now.levels c.split_lowest.new.self.levels c.new-tasks.result.items c.split_lowest.new.into.items c.new-tasks.ensures.items c.in-Ok.ensures.ok c.in-Ok.ensures.to_come (c.in-Ok.ensures.levels_open c.requires.levels_open);
   noting = record {
     done = paths_of c.split_lowest.new.into.items;
     rest = [];

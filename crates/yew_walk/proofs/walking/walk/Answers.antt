@@ -33,7 +33,7 @@ returns-in-Err-enter-clause-refused g c =
     let now = scene c.args.seat.now c.args.hand.now c.start.new.self (g.O.Outlet.sent c.args.outlet.now) (g.O.Outlet.answers c.args.outlet.now) (log_view (g.R.Recorder.told c.note.new.log) (g.R.Recorder.totals c.note.new.log) (g.R.Recorder.number c.note.new.log)) in
     let after = scene c.enter.new.seat c.enter.new.hand c.start.new.self (g.O.Outlet.sent c.args.outlet.now) (g.O.Outlet.answers c.args.outlet.now) (log_view (g.R.Recorder.told c.enter.new.log) (g.R.Recorder.totals c.enter.new.log) (g.R.Recorder.number c.enter.new.log)) in
     let awaits = awaits-start meaning problem c.args.keying (g.T.Tally.join t) (g.T.Tally.of t) g.Q.Policy.meaning path (meaning.ranked problem) c.requires.root first now node c.requires.task refl refl refl refl c.start.ensures c.in-Ok.ensures.ok in
-    awaits-stops meaning problem c.args.keying (g.T.Tally.join t) (g.T.Tally.of t) g.Q.Policy.meaning path (meaning.ranked problem) first now after [] path node c.in-Err-enter.fault c.requires.task awaits c.in-Err-enter.ensures.err refl
+    awaits-stops meaning problem c.args.keying (g.T.Tally.join t) (g.T.Tally.of t) g.Q.Policy.meaning path (meaning.ranked problem) first now after [] path node c.in-Err-enter.fault c.requires.task awaits (rw c.new-stack.ensures at c.in-Err-enter.ensures.err) refl
 
 pub returns-in-Err-enter-clause-kept : goal.returns-in-Err-enter-clause-kept
 returns-in-Err-enter-clause-kept g c = g.O.Outlet.kept_same c.args.outlet.now
@@ -51,9 +51,9 @@ returns-in-Err-ask-clause-refused g c =
     let after = scene c.enter.new.seat c.enter.new.hand c.ask.new.policy (g.O.Outlet.sent c.ask.new.outlet) (g.O.Outlet.answers c.ask.new.outlet) (log_view (g.R.Recorder.told c.ask.new.log) (g.R.Recorder.totals c.ask.new.log) (g.R.Recorder.number c.ask.new.log)) in
     let awaits = awaits-start meaning problem c.args.keying (g.T.Tally.join t) (g.T.Tally.of t) g.Q.Policy.meaning path (meaning.ranked problem) c.requires.root first now node c.requires.task refl refl refl refl c.start.ensures c.in-Ok.ensures.ok in
     let entered = rw c.new-stack.ensures at c.in-Ok-enter.ensures.ok in
-    let happened = awaits-enters meaning problem c.args.keying (g.T.Tally.join t) (g.T.Tally.of t) g.Q.Policy.meaning path (meaning.ranked problem) c.in-Ok-enter.event first now mid [] c.enter.new.stack path node c.requires.task awaits entered c.in-Ok-enter.ensures.within refl refl refl in
+    let happened = awaits-enters meaning problem c.args.keying (g.T.Tally.join t) (g.T.Tally.of t) g.Q.Policy.meaning path (meaning.ranked problem) c.in-Ok-enter.event first now mid [] c.enter.new.stack.levels path node c.requires.task awaits entered c.in-Ok-enter.ensures.within refl refl refl in
     let asked = rw c.numbers.ensures.value at c.in-Err-ask.ensures.err in
-    event-stops meaning problem c.args.keying (g.T.Tally.join t) (g.T.Tally.of t) g.Q.Policy.meaning path asked.0 first mid after c.enter.new.stack c.ask.new.stack c.in-Ok-enter.event (length path) c.in-Err-ask.fault happened asked.1 refl
+    event-stops meaning problem c.args.keying (g.T.Tally.join t) (g.T.Tally.of t) g.Q.Policy.meaning path asked.0 first mid after c.enter.new.stack.levels c.ask.new.stack.levels c.in-Ok-enter.event (length path) c.in-Err-ask.fault happened asked.1 refl
 
 pub loop-stack-init : goal.loop-stack-init
 loop-stack-init g c =
@@ -68,11 +68,11 @@ loop-stack-init g c =
     let after = scene c.enter.new.seat c.enter.new.hand c.ask.new.policy (g.O.Outlet.sent c.ask.new.outlet) (g.O.Outlet.answers c.ask.new.outlet) (log_view (g.R.Recorder.told c.ask.new.log) (g.R.Recorder.totals c.ask.new.log) (g.R.Recorder.number c.ask.new.log)) in
     let awaits = awaits-start meaning problem c.args.keying (g.T.Tally.join t) (g.T.Tally.of t) g.Q.Policy.meaning path (meaning.ranked problem) c.requires.root first now node c.requires.task refl refl refl refl c.start.ensures c.in-Ok.ensures.ok in
     let entered = rw c.new-stack.ensures at c.in-Ok-enter.ensures.ok in
-    let happened = awaits-enters meaning problem c.args.keying (g.T.Tally.join t) (g.T.Tally.of t) g.Q.Policy.meaning path (meaning.ranked problem) c.in-Ok-enter.event first now mid [] c.enter.new.stack path node c.requires.task awaits entered c.in-Ok-enter.ensures.within refl refl refl in
+    let happened = awaits-enters meaning problem c.args.keying (g.T.Tally.join t) (g.T.Tally.of t) g.Q.Policy.meaning path (meaning.ranked problem) c.in-Ok-enter.event first now mid [] c.enter.new.stack.levels path node c.requires.task awaits entered c.in-Ok-enter.ensures.within refl refl refl in
     let asked = rw c.numbers.ensures.value at c.in-Ok-ask.ensures.ok in
-    let open_before = c.in-Ok-enter.ensures.levels_open (subst (λ (s : List (LevelValue g.row.P-Kids.Denot)). AllOpen meaning problem s) (sym c.new-stack.ensures) tt) in
+    let open_before = c.in-Ok-enter.ensures.levels_open (subst (λ (s : List (LevelValue g.row.P-Kids.Denot)). AllOpen meaning problem s) (sym (ap (λ d. d.levels) c.new-stack.ensures)) tt) in
     record {
-      levels_open = asked-open meaning problem g.Q.Policy.meaning _ _ _ c.enter.new.stack c.ask.new.stack _ _ _ _ asked.2 open_before;
+      levels_open = asked-open meaning problem g.Q.Policy.meaning _ _ _ c.enter.new.stack.levels c.ask.new.stack.levels _ _ _ _ asked.2 open_before;
       seat = c.enter.ensures.seat;
       share = c.enter.ensures.share;
       space = c.enter.ensures.space;
@@ -80,7 +80,7 @@ loop-stack-init g c =
       problem = c.ask.ensures.problem;
       kept = c.ask.ensures.kept;
       later = c.in-Ok-ask.ensures.later;
-      walking = event-asked meaning problem c.args.keying (g.T.Tally.join t) (g.T.Tally.of t) g.Q.Policy.meaning path asked.0 c.in-Ok-enter.event (length path) first mid after c.enter.new.stack c.ask.new.stack happened asked.2 refl refl asked.1;
+      walking = event-asked meaning problem c.args.keying (g.T.Tally.join t) (g.T.Tally.of t) g.Q.Policy.meaning path asked.0 c.in-Ok-enter.event (length path) first mid after c.enter.new.stack.levels c.ask.new.stack.levels happened asked.2 refl refl asked.1;
     }
 
 pub loop-stack-preserved : goal.loop-stack-preserved
@@ -105,7 +105,7 @@ returns-in-Ok-false-clause-walked g c =
     let first = scene c.args.seat.now c.args.hand.now c.args.policy.now (g.O.Outlet.sent c.args.outlet.now) (g.O.Outlet.answers c.args.outlet.now) (log_view (g.R.Recorder.told c.args.log.now) (g.R.Recorder.totals c.args.log.now) (g.R.Recorder.number c.args.log.now)) in
     let after = scene c.turn.new.seat c.turn.new.hand c.turn.new.policy (g.O.Outlet.sent c.turn.new.outlet) (g.O.Outlet.answers c.turn.new.outlet) (log_view (g.R.Recorder.told c.turn.new.log) (g.R.Recorder.totals c.turn.new.log) (g.R.Recorder.number c.turn.new.log)) in
     let empty = rw c.in-Ok-false.field-0-test at c.in-Ok-false.ensures.more in
-    walking-walked g.P.Problem c.args.problem.now c.args.keying (g.T.Tally.join t) (g.T.Tally.of t) g.Q.Policy.meaning c.args.task.path.numbers (g.T.Tally.monoid t) (g.T.Tally.of_fits t) first after c.turn.new.stack c.requires.fits empty (c.in-Ok-false.ensures.ok c.args.task.path.numbers first before.walking)
+    walking-walked g.P.Problem c.args.problem.now c.args.keying (g.T.Tally.join t) (g.T.Tally.of t) g.Q.Policy.meaning c.args.task.path.numbers (g.T.Tally.monoid t) (g.T.Tally.of_fits t) first after c.turn.new.stack.levels c.requires.fits empty (c.in-Ok-false.ensures.ok c.args.task.path.numbers first before.walking)
 
 pub returns-in-Ok-false-clause-kept : goal.returns-in-Ok-false-clause-kept
 returns-in-Ok-false-clause-kept g c = g.O.Outlet.kept_twice c.args.outlet.now c.loop-stack.outlet c.turn.new.outlet c.loop-stack.invariant.kept c.turn.ensures.kept
