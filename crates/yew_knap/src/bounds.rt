@@ -7,7 +7,7 @@ use crate::order::Numbered;
 
 /// The most profit that items within a room can add, if parts of items could be taken: each item while it fits, and
 /// then, of the first one that does not fit, the whole part of its profit times the room left divided by its weight.
-#[inline]
+#[inline(always)]
 pub fn greedy_gain(items: &[Numbered], room: u64) -> u64
     requires { dantzig room items.now < 2 ^ 64 }
     ensures { result ≡ dantzig room items.now }

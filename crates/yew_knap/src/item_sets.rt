@@ -12,7 +12,7 @@ impl ItemSet {
     ghost use Rattle.yew_knap.specs.ItemSets.{no_items, has_item, with_item};
 
     /// The empty set.
-    #[inline]
+    #[inline(always)]
     pub fn empty() -> ItemSet
         ensures { result ≡ no_items }
     {
@@ -20,7 +20,7 @@ impl ItemSet {
     }
 
     /// Whether an item is in the set.
-    #[inline]
+    #[inline(always)]
     pub fn has(&self, item: u32) -> bool
         requires { item < 256 }
         ensures { result ≡ has_item self.now item }
@@ -29,7 +29,7 @@ impl ItemSet {
     }
 
     /// The set with one more item.
-    #[inline]
+    #[inline(always)]
     pub fn with(&self, item: u32) -> ItemSet
         requires { item < 256 }
         ensures { result ≡ with_item self.now item }

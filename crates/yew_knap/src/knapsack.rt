@@ -53,7 +53,7 @@ impl Knapsack {
     }
 
     /// The weight that can be carried.
-    #[inline]
+    #[inline(always)]
     pub(crate) fn capacity(&self) -> u64
         ensures { result ≡ self.now.capacity }
     {
@@ -68,7 +68,7 @@ impl Knapsack {
     }
 
     /// The items in the order in which they are tried.
-    #[inline]
+    #[inline(always)]
     pub(crate) fn order(&self) -> &[Numbered]
         ensures { result.now ≡ searched_order self.now }
     {

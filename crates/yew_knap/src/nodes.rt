@@ -19,7 +19,7 @@ impl KnapNode {
     ghost use Rattle.yew_knap.specs.Nodes.{added};
 
     /// The set with the item at a place of the searched order.
-    #[inline]
+    #[inline(always)]
     pub(crate) fn with(&self, place: usize, item: &Numbered) -> KnapNode
         requires index { item.now.index < 256 }
         requires fits { item.now.weight ≤ self.now.room }

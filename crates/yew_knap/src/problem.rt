@@ -47,7 +47,7 @@ impl Problem for Knapsack {
         })
     }
 
-    #[inline]
+    #[inline(always)]
     fn open(&self, _alloc: Global, node: KnapNode) -> Result<KnapKids, Memory> {
         Ok(KnapKids {
             next: node.next,
@@ -55,7 +55,7 @@ impl Problem for Knapsack {
         })
     }
 
-    #[inline]
+    #[inline(always)]
     fn next(&self, _alloc: Global, kids: &mut KnapKids) -> Result<Option<KnapNode>, Memory> {
         let order = self.order();
         for place in kids.next..order.len() {
@@ -69,12 +69,12 @@ impl Problem for Knapsack {
         Ok(None)
     }
 
-    #[inline]
+    #[inline(always)]
     fn worth(&self, node: &KnapNode) -> u64 {
         node.profit + 1
     }
 
-    #[inline]
+    #[inline(always)]
     fn bound(&self, node: &KnapNode) -> u64 {
         node.profit + greedy_gain(&self.order()[node.next..], node.room) + 1
     }

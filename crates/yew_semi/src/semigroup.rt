@@ -97,6 +97,7 @@ impl Semigroup {
     }
 
     /// The semigroups without one of the minimal generators above the Frobenius number, by rising generator.
+    #[inline(always)]
     pub(crate) fn generators(self) -> Generators
         requires { IsSemigroup 40 self }
         ensures { result ≡ map (without self) (generators_above self) }
@@ -129,6 +130,7 @@ impl Semigroup {
 
 impl Generators {
     /// The next child, by rising generator.
+    #[inline(always)]
     pub(crate) fn take(&mut self) -> Option<Semigroup>
         requires { AllByRecursion (IsSemigroup 40) self.old }
         ensures { MatchOption result ((self.old ≡ []) × (self.new ≡ [])) (λ node. self.old ≡ node ∷ self.new) }
@@ -146,6 +148,7 @@ impl Generators {
 
 impl Words {
     /// The semigroup without a minimal generator that is greater than the Frobenius number; the greater ones are given.
+    #[inline(always)]
     fn without(self, generator: u32, greater: u128) -> Semigroup
         requires words { AreWords self.gaps self.mirror self.multiplicity self.genus }
         requires generator { (generator < 128) × (is_generator (bits_of self.gaps) generator ≡ true) }
@@ -161,6 +164,7 @@ impl Words {
     }
 
     /// The semigroup without a generator, with its least member from 1 on and the generators that it inherits.
+    #[inline(always)]
     fn child(self, generator: u32, multiplicity: u32, inherited: u128) -> Semigroup
         requires words { AreWords self.gaps self.mirror self.multiplicity self.genus }
         requires generator { (generator < 128) × (is_generator (bits_of self.gaps) generator ≡ true) }

@@ -36,7 +36,7 @@ impl TourNode {
     }
 
     /// The node with its last city written behind the others.
-    #[inline]
+    #[inline(always)]
     pub(crate) fn write(mut self) -> TourNode
         requires { self.steps < 60 }
         ensures { result ≡ written self }

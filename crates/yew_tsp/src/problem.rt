@@ -13,7 +13,7 @@ pub(crate) const WHOLE: u64 = 1 << 37;
 
 impl Tours {
     /// The list of a node that is written out with one more city.
-    #[inline]
+    #[inline(always)]
     fn extend(&self, node: &TourNode, city: u32) -> TourNode
         requires { IsNode self.now (extended self.now node.now city) }
         ensures { result ≡ extended self.now node.now city }
@@ -61,12 +61,12 @@ impl Problem for Tours {
 
     ghost countable = { children-few };
 
-    #[inline]
+    #[inline(always)]
     fn root(&self, _alloc: Global) -> Result<TourNode, Memory> {
         Ok(self.first())
     }
 
-    #[inline]
+    #[inline(always)]
     fn open(&self, _alloc: Global, node: TourNode) -> Result<TourKids, Memory> {
         Ok(TourKids {
             left: node.unvisited,
@@ -74,7 +74,7 @@ impl Problem for Tours {
         })
     }
 
-    #[inline]
+    #[inline(always)]
     fn next(&self, _alloc: Global, kids: &mut TourKids) -> Result<Option<TourNode>, Memory> {
         let left = kids.left;
         if left == 0 {
@@ -86,7 +86,7 @@ impl Problem for Tours {
         Ok(Some(child))
     }
 
-    #[inline]
+    #[inline(always)]
     fn worth(&self, node: &TourNode) -> u64 {
         if node.steps as usize + 1 < self.cities() {
             return 0;
@@ -95,7 +95,7 @@ impl Problem for Tours {
         WHOLE - (node.lower + self.weight(last, 1) as u64 - self.least(last) as u64)
     }
 
-    #[inline]
+    #[inline(always)]
     fn bound(&self, node: &TourNode) -> u64 {
         WHOLE - node.lower
     }

@@ -12,7 +12,7 @@ use yew_laws::Memory;
 pub(crate) const MOST_WEIGHT: u32 = 2_147_483_647;
 
 /// The weight from one city to another, of those of so many cities row by row.
-#[inline]
+#[inline(always)]
 fn weight_at(cities: usize, weights: &[u32], from: usize, to: usize) -> u32
     requires square { length weights.now ≡ cities * cities }
     requires from { (1 ≤ from) × (from ≤ cities) }
@@ -85,7 +85,7 @@ impl Tours {
     }
 
     /// The number of cities.
-    #[inline]
+    #[inline(always)]
     pub(crate) fn cities(&self) -> usize
         ensures { result ≡ self.now.cities }
     {
@@ -93,7 +93,7 @@ impl Tours {
     }
 
     /// The weights from each city to each, row by row.
-    #[inline]
+    #[inline(always)]
     pub(crate) fn weights(&self) -> &[u32]
         ensures { result.now ≡ self.now.weights }
     {
@@ -101,7 +101,7 @@ impl Tours {
     }
 
     /// The root of the tree.
-    #[inline]
+    #[inline(always)]
     pub(crate) fn first(&self) -> TourNode
         ensures { result ≡ root_of self.now }
     {
@@ -109,7 +109,7 @@ impl Tours {
     }
 
     /// The weight from one city to another.
-    #[inline]
+    #[inline(always)]
     pub(crate) fn weight(&self, from: usize, to: usize) -> u32
         requires square { length self.now.weights ≡ self.now.cities * self.now.cities }
         requires from { (1 ≤ from) × (from ≤ self.now.cities) }
@@ -120,7 +120,7 @@ impl Tours {
     }
 
     /// The least weight from a city to another one.
-    #[inline]
+    #[inline(always)]
     pub(crate) fn least(&self, city: usize) -> u32
         requires { (1 ≤ city) × (city ≤ self.now.cities) }
         ensures { result ≡ least_weight self.now city }
