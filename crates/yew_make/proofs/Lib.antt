@@ -8,4 +8,5 @@ pub mod Pairs
 pub mod NumberWords
 pub mod KnapsackFiles
 pub mod GraphFiles
+pub mod TourFields
 pub mod TourFiles

@@ -1,20 +1,21 @@
 -- What holds of everything that is made.
-use Rattle.std.specs.Prelude.{◌≡◌, ℕ, Bool, ◌-◌, ◌*◌, ◌/◌, ◌<◌, ◌≤◌, true, false, List, [], ◌∷◌, ◌++◌, length, map, flat_map, decimal, codes, IsTrue, IsFalse}
-use Rattle.std.specs.List.{AllZip, AllByRecursion, before_first}
+use Rattle.std.specs.Prelude.{◌≡◌, ℕ, ◌-◌, ◌*◌, ◌/◌, ◌<◌, ◌≤◌, false, List, ◌∷◌, length, map, flat_map}
+use Rattle.std.specs.List.{AllZip, AllByRecursion}
 use Rattle.rand_core.specs.Steps.{first_words}
 use Rattle.rand_pcg.specs.Lcg.{started, increment_of}
 use Rattle.rand_pcg.specs.Pcg.{multiplier_64, pcg32}
 use Rattle.yew_words.specs.declared.plan.Made.TheVariants as made
-use Rattle.yew_text.specs.Words.{TextWord, words_of, words_from, lines_from}
-use Rattle.yew_text.specs.Numbers.{is_digits, value_of, IsNumber}
-use Rattle.yew_text.specs.Fields.{TextField, FieldAt, fields_of}
+use Rattle.yew_text.specs.Words.{words_of}
+use Rattle.yew_text.specs.Numbers.{IsNumber}
 use Rattle.yew_knap.specs.declared.knapsack.Item.{Item}
 use Rattle.yew_knap.specs.Instance.{IsWithinLimits}
 use Rattle.yew_knap.specs.Files.{IsKnapsackFile}
+use Rattle.yew_tsp.specs.Files.{IsTourFile, HasNonePast}
+use Rattle.yew_tsp.specs.Instance as tours
 use Rattle.yew_make.specs.Draws.{draws, weight, weights}
 use Rattle.yew_make.specs.Pairs.{pairs, place_of}
 use Rattle.yew_make.specs.Knapsacks.{made_items, made_knapsack}
-use Rattle.yew_make.specs.Tours.{made_triangle, made_weights, matrix_text}
+use Rattle.yew_make.specs.Tours.{made_weights, made_tours}
 use Rattle.yew_make.specs.Graphs.{is_joined, are_joined, made_graph, vertex_row}
 use Rattle.yew_make.specs.Texts.{made_text}
 
@@ -35,43 +36,12 @@ pub record MadeKnapsack (seed size : ℕ) : Type 0 where
   pub count : length (made_items seed size) ≡ size
   pub weights : AllByRecursion HasWeights (made_items seed size)
 
--- the fields of the specification part, and the line behind which the matrix begins
-abbrev pub field : List ℕ → List ℕ → ℕ → TextField
-field key value line = record { key = key; value = value; colon = true; line = line }
-
-abbrev pub head_fields : ℕ → List TextField
-head_fields size =
-    field (codes "NAME") (codes "made") 1
-    ∷ field (codes "TYPE") (codes "TSP") 2
-    ∷ field (codes "DIMENSION") (decimal size) 3
-    ∷ field (codes "EDGE_WEIGHT_TYPE") (codes "EXPLICIT") 4
-    ∷ field (codes "EDGE_WEIGHT_FORMAT") (codes "UPPER_ROW") 5
-    ∷ []
-
-abbrev pub section_field : TextField
-section_field = record { key = codes "EDGE_WEIGHT_SECTION"; value = []; colon = false; line = 6 }
-
--- These words are numbers, and then one word more, the one that ends a file. So they are these numbers up to the first
--- word that ends a matrix, for any test of such words that `EOF` passes and no digits pass.
-pub record AreMatrixWords (numbers : List ℕ) (words : List TextWord) : Type 0 where
-  pub before : List TextWord
-  pub after : TextWord
-  pub words_are : words ≡ before ++ after ∷ []
-  pub are_numbers : AllZip IsNumber before numbers
-  pub end_is : after.text ≡ codes "EOF"
-  pub up_to_end : (ends : List ℕ → Bool) → IsTrue (ends (codes "EOF")) → ((text : List ℕ) → IsTrue (is_digits text) → IsFalse (ends text)) → AllZip IsNumber (before_first (λ word. ends word.text) words) numbers
-
--- The text begins with the fields of the specification part. Behind the line of the section the words are the weights of
--- the triangle, row by row, and the end of the file.
+-- The text is a tour file of the made instance, none of its numbers is past its limit, and the instance is within its
+-- limits. The weights of the file are drawn in the order of the pairs of cities.
 pub record MadeTour (seed size : ℕ) : Type 0 where
-  pub before : List FieldAt
-  pub more : List FieldAt
-  pub fields_are : fields_of (made_text made.Tsp seed size) ≡ before ++ record { field = section_field; behind = lines_from 7 (matrix_text (made_triangle seed size)) } ∷ more
-  pub before_are : map (λ at. at.field) before ≡ head_fields size
-  pub size_digits : IsTrue (is_digits (decimal size))
-  pub size_some : 0 < length (decimal size)
-  pub size_value : size ≡ value_of (decimal size)
-  pub matrix : AreMatrixWords (made_weights seed size) (words_from 7 (matrix_text (made_triangle seed size)))
+  pub file : IsTourFile (made_text made.Tsp seed size) (made_tours seed size)
+  pub none_past : HasNonePast (made_text made.Tsp seed size)
+  pub limits : tours.IsWithinLimits (made_tours seed size)
   pub in_order : made_weights seed size ≡ weights seed 0 (size * (size - 1) / 2)
   pub by_pairs : made_weights seed size ≡ map (λ pair. weight seed (place_of size pair)) (pairs size)
   pub count : length (made_weights seed size) ≡ size * (size - 1) / 2

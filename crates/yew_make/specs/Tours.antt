@@ -2,6 +2,9 @@
 use Rattle.std.specs.Prelude.{ℕ, suc, ◌-◌, List, ◌++◌, map, decimal, codes}
 use Rattle.std.specs.List.{range_with_len}
 use Rattle.yew_lines.specs.Spelling.{line}
+use Rattle.yew_tsp.specs.declared.header.Format.TheVariants.{UpperRow}
+use Rattle.yew_tsp.specs.Instance.{Instance}
+use Rattle.yew_tsp.specs.Files.{Contents, instance_of}
 use Rattle.yew_make.specs.Draws.{first_state, weights_from}
 use Rattle.yew_make.specs.Pairs.{pairs_before}
 use Rattle.yew_make.specs.Rows.{row_lines, row_numbers}
@@ -19,6 +22,13 @@ made_triangle seed size = triangle_from (first_state seed) size
 
 abbrev pub made_weights : ℕ → ℕ → List ℕ
 made_weights seed size = row_numbers (made_triangle seed size)
+
+-- the numbers of a file of these cities, and the instance
+abbrev pub made_contents : ℕ → ℕ → Contents
+made_contents seed size = record { cities = size; format = UpperRow; numbers = made_weights seed size }
+
+abbrev pub made_tours : ℕ → ℕ → Instance
+made_tours seed size = instance_of (made_contents seed size)
 
 -- the specification part of a file of TSPLIB 95
 abbrev pub tour_head : ℕ → List ℕ

@@ -5,6 +5,8 @@ ghost use Rattle.yew_make.specs.Graphs.{are_joined};
 ghost use Rattle.yew_make.specs.Pairs.{AreInOrder};
 ghost use Rattle.yew_make.specs.Laws.{AreGeneratorWords, MadeKnapsack, MadeTour, MadeGraph};
 
+use yew_tsp::laws::file_laws;
+
 /// The draws of a seed are the words of the generator.
 pub fn made_draws()
     ensures { (seed count : ℕ) → AreGeneratorWords seed count }
@@ -21,11 +23,13 @@ pub fn made_knapsack()
     ensures { (seed size : ℕ) → size ≤ 256 → MadeKnapsack seed size }
 {}
 
-/// The text of a made tour instance has the fields of a specification part of TSPLIB 95, and behind them the weights above
-/// the diagonal row by row, each from 1 to 1000, and the end of the file.
+/// The text of a made tour instance is a file of the made instance, which is within the limits of tour files. The file has
+/// the weights above the diagonal row by row, each from 1 to 1000, as they are drawn.
 pub fn made_tour()
-    ensures { (seed size : ℕ) → 1 ≤ size → size ≤ 60 → MadeTour seed size }
-{}
+    ensures { (seed size : ℕ) → 2 ≤ size → size ≤ 60 → MadeTour seed size }
+{
+    file_laws();
+}
 
 /// The words of the text of a made graph are the number of its vertices, and for each vertex the number of its successors
 /// and the successors, which are vertices.
