@@ -5,10 +5,11 @@ use Rattle.std.specs.List.{range_with_len}
 use Rattle.std.proofs.lemmas.Bool.{cases_lt, lt-ltb, le-ltb}
 use Rattle.std.proofs.lemmas.List.FromFn.{length-map-range_with_len, map-range_with_len_more, get_or-map-range_with_len}
 use Rattle.std.proofs.lemmas.List.{append-nil}
+use Rattle.yew_lad.specs.Files.{vertex_numbers}
 use Rattle.yew_make.specs.Draws.{state_after, word_of, word_from}
 use Rattle.yew_make.specs.Rows.{row_line, row_lines}
 use Rattle.yew_make.specs.Pairs.{pairs_before, pair_place}
-use Rattle.yew_make.specs.Graphs.{joins, kept, are_joined, successors_of, graph_of, graph_from, vertex_row, graph_text}
+use Rattle.yew_make.specs.Graphs.{joins, kept, are_joined, successors_of, graph_of, graph_from, graph_text}
 use Rattle.yew_make.proofs.Ranges.{filter-agree, map-agree}
 use Rattle.yew_make.proofs.RowSteps.{row_lines-more}
 use Rattle.yew_make.proofs.Triangles.{pair_place-lt, pairs_before-all}
@@ -51,11 +52,11 @@ graph_of-drawn state size pairs e =
     (λ k l. ap (λ (ps : List Bool). get_or ps k false) e ∙ get_or-map-range_with_len (λ place. joins (word_from state place)) 0 (pairs_before size size) k k false l (omega arith))
 
 -- one more line
-pub vertex_lines-more : (old : List ℕ) (joined : ℕ → Bool) (size u : ℕ) → (old ++ row_lines (map vertex_row (map (successors_of joined size) (range_with_len 0 u)))) ++ row_line (vertex_row (successors_of joined size u)) ≡ old ++ row_lines (map vertex_row (map (successors_of joined size) (range_with_len 0 (u + 1))))
+pub vertex_lines-more : (old : List ℕ) (joined : ℕ → Bool) (size u : ℕ) → (old ++ row_lines (map vertex_numbers (map (successors_of joined size) (range_with_len 0 u)))) ++ row_line (vertex_numbers (successors_of joined size u)) ≡ old ++ row_lines (map vertex_numbers (map (successors_of joined size) (range_with_len 0 (u + 1))))
 vertex_lines-more old joined size u =
-    row_lines-more old (map vertex_row (map (successors_of joined size) (range_with_len 0 u))) (vertex_row (successors_of joined size u))
+    row_lines-more old (map vertex_numbers (map (successors_of joined size) (range_with_len 0 u))) (vertex_numbers (successors_of joined size u))
     ∙ ap (λ (rows : List (List ℕ)). old ++ row_lines rows)
-    (sym (map_push vertex_row (map (successors_of joined size) (range_with_len 0 u)) (successors_of joined size u)) ∙ ap (map vertex_row) (sym (map-range_with_len_more (successors_of joined size) 0 u u (omega arith))))
+    (sym (map_push vertex_numbers (map (successors_of joined size) (range_with_len 0 u)) (successors_of joined size u)) ∙ ap (map vertex_numbers) (sym (map-range_with_len_more (successors_of joined size) 0 u u (omega arith))))
   where
     map_push : {X Y : Type 0} (f : X → Y) (xs : List X) (y : X) → map f (xs ++ y ∷ []) ≡ map f xs ++ f y ∷ []
     map_push f [] y = refl
@@ -66,7 +67,7 @@ pub pairs-many : (size count : ℕ) (f : ℕ → Bool) (pairs : List Bool) → c
 pairs-many size count f pairs all e = ap (λ (l : List Bool). length l) e ∙ length-map-range_with_len f 0 count ∙ all ∙ pairs_before-all size
 
 -- the first line and those of the vertices
-pub graph-pushed : (state size count : ℕ) (pairs : List Bool) (old one two three : List ℕ) → count ≡ size * (size - 1) / 2 → pairs ≡ map (λ place. joins (word_from state place)) (range_with_len 0 count) → one ≡ old ++ decimal size → two ≡ one ++ 10 ∷ [] → three ≡ two ++ row_lines (map vertex_row (graph_of (kept pairs) size)) → three ≡ old ++ graph_text (graph_from state size)
+pub graph-pushed : (state size count : ℕ) (pairs : List Bool) (old one two three : List ℕ) → count ≡ size * (size - 1) / 2 → pairs ≡ map (λ place. joins (word_from state place)) (range_with_len 0 count) → one ≡ old ++ decimal size → two ≡ one ++ 10 ∷ [] → three ≡ two ++ row_lines (map vertex_numbers (graph_of (kept pairs) size)) → three ≡ old ++ graph_text (graph_from state size)
 graph-pushed state size count pairs old one two three all are first second third =
     let many : count ≡ pairs_before size size = all ∙ pairs_before-all size in
     let drawn = graph_of-drawn state size pairs (are ∙ ap (λ (n : ℕ). map (λ place. joins (word_from state place)) (range_with_len 0 n)) many) in
@@ -74,10 +75,10 @@ graph-pushed state size count pairs old one two three all are first second third
     let head : two ≡ old ++ row_line (size ∷ []) =
     second ∙ ap (λ (t : List ℕ). t ++ 10 ∷ []) first ∙ append_assoc old (decimal size) (10 ∷ []) ∙ ap (λ (t : List ℕ). old ++ (t ++ 10 ∷ [])) (sym (append-nil (decimal size))) in
     third
-    ∙ ap (λ (g : List (List ℕ)). two ++ row_lines (map vertex_row g)) drawn
-    ∙ ap (λ (t : List ℕ). t ++ row_lines (map vertex_row (graph_from state size))) head
-    ∙ append_assoc old (row_line (size ∷ [])) (row_lines (map vertex_row (graph_from state size)))
-    ∙ ap (λ (n : ℕ). old ++ (row_line (n ∷ []) ++ row_lines (map vertex_row (graph_from state size)))) vertices
+    ∙ ap (λ (g : List (List ℕ)). two ++ row_lines (map vertex_numbers g)) drawn
+    ∙ ap (λ (t : List ℕ). t ++ row_lines (map vertex_numbers (graph_from state size))) head
+    ∙ append_assoc old (row_line (size ∷ [])) (row_lines (map vertex_numbers (graph_from state size)))
+    ∙ ap (λ (n : ℕ). old ++ (row_line (n ∷ []) ++ row_lines (map vertex_numbers (graph_from state size)))) vertices
 
 -- one more pair
 pub pairs-more : (state k now word : ℕ) (pairs : List Bool) → now ≡ state_after state k → word ≡ word_of now → pairs ≡ map (λ place. joins (word_from state place)) (range_with_len 0 k) → pairs ++ joins word ∷ [] ≡ map (λ place. joins (word_from state place)) (range_with_len 0 (k + 1))

@@ -1,6 +1,8 @@
 -- The graph of a seed and a size: different vertices are joined in both directions, or in none.
 use Rattle.std.specs.Prelude.{ℕ, ◌%◌, Bool, false, ◌==◌, List, [], ◌∷◌, length, map, filter, nat_lt, get_or, if◌then◌else◌}
 use Rattle.std.specs.List.{range_with_len}
+use Rattle.yew_lad.specs.Digraphs.{Digraph}
+use Rattle.yew_lad.specs.Files.{vertex_numbers}
 use Rattle.yew_make.specs.Draws.{first_state, word_from}
 use Rattle.yew_make.specs.Rows.{row_lines}
 use Rattle.yew_make.specs.Pairs.{pair_place}
@@ -32,12 +34,12 @@ is_joined seed place = joins (word_from (first_state seed) place)
 abbrev pub made_graph : ℕ → ℕ → List (List ℕ)
 made_graph seed size = graph_from (first_state seed) size
 
--- the number of vertices, and for each vertex the number of its successors and the successors
-abbrev pub vertex_row : List ℕ → List ℕ
-vertex_row successors = length successors ∷ successors
+abbrev pub made_digraph : ℕ → ℕ → Digraph
+made_digraph seed size = record { successors = made_graph seed size }
 
+-- the number of vertices, and for each vertex the number of its successors and the successors
 abbrev pub graph_rows : List (List ℕ) → List (List ℕ)
-graph_rows graph = (length graph ∷ []) ∷ map vertex_row graph
+graph_rows graph = (length graph ∷ []) ∷ map vertex_numbers graph
 
 abbrev pub graph_text : List (List ℕ) → List ℕ
 graph_text graph = row_lines (graph_rows graph)

@@ -1,5 +1,5 @@
 -- What holds of everything that is made.
-use Rattle.std.specs.Prelude.{◌≡◌, ℕ, ◌-◌, ◌*◌, ◌/◌, ◌<◌, ◌≤◌, false, List, ◌∷◌, length, map, flat_map}
+use Rattle.std.specs.Prelude.{◌≡◌, ℕ, ◌-◌, ◌*◌, ◌/◌, ◌<◌, ◌≤◌, false, length, map}
 use Rattle.std.specs.List.{AllZip, AllByRecursion}
 use Rattle.rand_core.specs.Steps.{first_words}
 use Rattle.rand_pcg.specs.Lcg.{started, increment_of}
@@ -12,11 +12,13 @@ use Rattle.yew_knap.specs.Instance.{IsWithinLimits}
 use Rattle.yew_knap.specs.Files.{IsKnapsackFile}
 use Rattle.yew_tsp.specs.Files.{IsTourFile, HasNonePast}
 use Rattle.yew_tsp.specs.Instance as tours
+use Rattle.yew_lad.specs.Digraphs.{vertex_count, is_arc}
+use Rattle.yew_lad.specs.Files.{graph_numbers, AreVertices, IsGraphFile}
 use Rattle.yew_make.specs.Draws.{draws, weight, weights}
 use Rattle.yew_make.specs.Pairs.{pairs, place_of}
 use Rattle.yew_make.specs.Knapsacks.{made_items, made_knapsack}
 use Rattle.yew_make.specs.Tours.{made_weights, made_tours}
-use Rattle.yew_make.specs.Graphs.{is_joined, are_joined, made_graph, vertex_row}
+use Rattle.yew_make.specs.Graphs.{is_joined, are_joined, made_graph, made_digraph}
 use Rattle.yew_make.specs.Texts.{made_text}
 
 -- The draws are the words that PCG XSH RR 64/32 gives in its stream 54.
@@ -47,15 +49,13 @@ pub record MadeTour (seed size : ℕ) : Type 0 where
   pub count : length (made_weights seed size) ≡ size * (size - 1) / 2
   pub weights : AllByRecursion IsWeight (made_weights seed size)
 
--- each successor is a vertex
-abbrev pub AreVertices : ℕ → List (List ℕ) → Type 0
-AreVertices size graph = AllByRecursion (AllByRecursion (λ v. v < size)) graph
-
--- The words of the text are the numbers of the made graph, which has `size` vertices. They are joined in both directions or
--- in none, and none is joined with itself.
+-- The text is a graph file of the made graph, which has `size` vertices, and it names each successor once. Two vertices are
+-- joined in both directions or in none, and none is joined with itself.
 pub record MadeGraph (seed size : ℕ) : Type 0 where
-  pub numbers : AllZip IsNumber (words_of (made_text made.Lad seed size)) (length (made_graph seed size) ∷ flat_map vertex_row (made_graph seed size))
-  pub count : length (made_graph seed size) ≡ size
+  pub file : IsGraphFile (made_text made.Lad seed size) (made_digraph seed size)
+  pub numbers : AllZip IsNumber (words_of (made_text made.Lad seed size)) (graph_numbers (made_graph seed size))
+  pub count : vertex_count (made_digraph seed size) ≡ size
   pub vertices : AreVertices size (made_graph seed size)
+  pub arcs : (u v : ℕ) → u < size → v < size → is_arc (made_digraph seed size) u v ≡ are_joined (is_joined seed) size u v
   pub alike : (u v : ℕ) → are_joined (is_joined seed) size u v ≡ are_joined (is_joined seed) size v u
   pub no_loops : (u : ℕ) → are_joined (is_joined seed) size u u ≡ false

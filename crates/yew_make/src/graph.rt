@@ -2,10 +2,11 @@
 
 ghost use Rattle.std.specs.Prelude.{◌≡◌, ◌++◌, ◌≤◌, ◌<◌, length, map, take, IfOk, OnOk};
 ghost use Rattle.std.specs.List.{range_with_len};
+ghost use Rattle.yew_lad.specs.Files.{vertex_numbers};
 ghost use Rattle.yew_make.specs.Draws.{word_from};
 ghost use Rattle.yew_make.specs.Rows.{row_line, row_lines};
 ghost use Rattle.yew_make.specs.Pairs.{pairs_before, pair_place};
-ghost use Rattle.yew_make.specs.Graphs.{joins, kept, are_joined, successors_of, graph_of, graph_from, vertex_row, graph_text};
+ghost use Rattle.yew_make.specs.Graphs.{joins, kept, are_joined, successors_of, graph_of, graph_from, graph_text};
 
 use crate::draws::Draws;
 use std::alloc::Global;
@@ -88,7 +89,7 @@ fn push_vertex(
     requires pairs { length pairs.now ≡ pairs_before size size }
     requires vertex { u < size }
     requires room { size ≤ length found.old }
-    ensures { OnOk result (out.new.items ≡ out.old.items ++ row_line (vertex_row (successors_of (kept pairs.now) size u))) }
+    ensures { OnOk result (out.new.items ≡ out.old.items ++ row_line (vertex_numbers (successors_of (kept pairs.now) size u))) }
 {
     let count = find_successors(pairs, size, u, found);
     push_number(out, count as u64)?;
@@ -99,7 +100,7 @@ fn push_vertex(
 fn push_vertices(out: &mut Vec<u8>, pairs: &[bool], size: usize) -> Result<(), Memory>
     requires size { size ≤ 1024 }
     requires pairs { length pairs.now ≡ pairs_before size size }
-    ensures { OnOk result (out.new.items ≡ out.old.items ++ row_lines (map vertex_row (graph_of (kept pairs.now) size))) }
+    ensures { OnOk result (out.new.items ≡ out.old.items ++ row_lines (map vertex_numbers (graph_of (kept pairs.now) size))) }
 {
     let mut found = [0; MOST_VERTICES];
     for u in 0..size {

@@ -24,15 +24,15 @@ pub fn made_knapsack()
 {}
 
 /// The text of a made tour instance is a file of the made instance, which is within the limits of tour files. The file has
-/// the weights above the diagonal row by row, each from 1 to 1000, as they are drawn.
+/// the weights above the diagonal row by row, each from 1 to 1000, in the order in which they are drawn.
 pub fn made_tour()
     ensures { (seed size : ℕ) → 2 ≤ size → size ≤ 60 → MadeTour seed size }
 {
     file_laws();
 }
 
-/// The words of the text of a made graph are the number of its vertices, and for each vertex the number of its successors
-/// and the successors, which are vertices.
+/// The text of a made graph is a file of that graph: the number of its vertices, and for each vertex the number of its
+/// successors and the successors, which are vertices, each named once.
 pub fn made_graph()
     ensures { (seed size : ℕ) → size ≤ 1024 → MadeGraph seed size }
 {}

@@ -1,8 +1,9 @@
 use Rattle.std.proofs.Common.{◌≡◌, ℕ, ◌*◌, ◌-◌, ◌/◌, Bool, List, ◌++◌, length, map, ap, ◌∙◌, arith}
 use Rattle.std.proofs.lemmas.Result.{on_ok_weaker}
+use Rattle.yew_lad.specs.Files.{vertex_numbers}
 use Rattle.yew_make.specs.Rows.{row_lines}
 use Rattle.yew_make.specs.Draws.{word_from}
-use Rattle.yew_make.specs.Graphs.{joins, kept, graph_of, vertex_row}
+use Rattle.yew_make.specs.Graphs.{joins, kept, graph_of}
 use Rattle.yew_make.proofs.Pairs.{pairs-many, graph-pushed}
 use Rattle.yew_make.proofs.graph.push_graph.Goals as goal
 
@@ -22,5 +23,5 @@ returns c =
     graph-pushed c.args.draws.now size (size * c.saturating_sub.result / 2) c.in_ok-pairs.pairs.items c.args.out.now.items c.push_number.new.out.items c.push_line_end.new.out.items c.push_vertices.new.out.items
     (ap (λ (n : ℕ). size * n / 2) less)
     c.in_ok-pairs.ensures c.in_ok-push_number.ensures c.in_ok-push_line_end.ensures
-    (e ∙ ap (λ (l : List Bool). c.push_line_end.new.out.items ++ row_lines (map vertex_row (graph_of (kept l) size))) c.as_slice.ensures.value))
+    (e ∙ ap (λ (l : List Bool). c.push_line_end.new.out.items ++ row_lines (map vertex_numbers (graph_of (kept l) size))) c.as_slice.ensures.value))
     c.push_vertices.ensures
