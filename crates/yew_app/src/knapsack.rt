@@ -9,6 +9,7 @@ ghost use Rattle.yew_walk.specs.PlainSearch.{HasPlainLog, IsPlainFault};
 ghost use Rattle.yew_app.specs.Knapsacks.{searched_knapsack, knapsack_lines, IsRightText, IsKnapsackText};
 ghost use Rattle.yew_app.specs.Texts.{first_node, StopsSearch};
 
+use crate::best::{BestFound, best_of};
 use crate::nodes::node_at;
 use crate::tail::{Answered, Asked, text_with_audit, text_with_counts};
 use std::alloc::Global;
@@ -113,18 +114,9 @@ fn best_answer<R: Recorder>(alloc: Global, problem: &Knapsack) -> Result<Answere
     ensures fault { IfErr result (IsPlainFault (searched_knapsack problem.now None) ((log : R) × IsSome (R.told log))) }
 {
     tree_packs(problem);
-    let Found { answer, logs } = match search_plain::<_, _, R>(
-        alloc,
-        problem,
-        Kind::Best,
-        &NoTally,
-    ) {
+    let BestFound { worth, path, logs } = match best_of(alloc, problem) {
         Ok(found) => found,
         Err(fault) => return Err(fault),
-    };
-    let (worth, path) = match answer {
-        Answer::Best { worth, path } => (worth, path),
-        Answer::Count(_) | Answer::Reach(_) => unreachable!(),
     };
     let path = match path {
         Some(path) => path,

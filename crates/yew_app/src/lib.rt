@@ -6,6 +6,7 @@
 //! cause.
 #![tactic(auto)]
 
+mod best;
 mod knapsack;
 mod nodes;
 mod plan;

@@ -5,21 +5,21 @@ ghost use Rattle.yew_tsp.specs.Answers.{tours_tree};
 ghost use Rattle.yew_tsp.specs.Instance.{IsWithinLimits};
 ghost use Rattle.yew_tsp.specs.Nodes.{IsNode, root_of};
 ghost use Rattle.yew_tsp.specs.Texts.{IsBestText};
-ghost use Rattle.yew_walk.specs.Answers.{IsBestAnswer};
+ghost use Rattle.yew_walk.specs.Answers.{IsBest};
 ghost use Rattle.yew_walk.specs.LogViews.{log_view};
 ghost use Rattle.yew_walk.specs.PlainSearch.{HasPlainLog, IsPlainFault};
 ghost use Rattle.yew_app.specs.ShortestTours.{tour_lines, IsToursText};
 ghost use Rattle.yew_app.specs.Texts.{first_node, StopsSearch};
 
+use crate::best::{BestFound, best_of};
 use crate::nodes::node_at;
 use crate::tail::{Answered, Asked, text_with_audit, text_with_counts};
 use std::alloc::Global;
-use yew_kinds::{Answer, Kind, NoTally};
-use yew_laws::Memory;
+use yew_laws::{Memory, Path};
 use yew_log::{Counts, Full, Recorder};
 use yew_tsp::Tours;
 use yew_tsp::laws::tree_tours;
-use yew_walk::{Found, SearchFault, search_plain};
+use yew_walk::SearchFault;
 
 /// The text of the least length with the first tour that has it, and what is asked for beside it.
 ///
@@ -78,29 +78,30 @@ fn tours_answer<R: Recorder>(alloc: Global, problem: &Tours) -> Result<Answered<
     ensures logs { IfOk result (λ answered. HasPlainLog (tours_tree problem.now) (λ log. log_view (R.told log) (R.totals log) (R.number log)) answered.logs.items) }
     ensures fault { IfErr result (IsPlainFault (tours_tree problem.now) ((log : R) × IsSome (R.told log))) }
 {
-    match search_plain::<_, _, R>(alloc, problem, Kind::Best, &NoTally) {
-        Ok(Found { answer, logs }) => {
-            let lines = shortest_lines(alloc, problem, answer)?;
+    match best_of(alloc, problem) {
+        Ok(BestFound { worth, path, logs }) => {
+            let lines = shortest_lines(alloc, problem, worth, path)?;
             Ok(Answered { lines, logs })
         }
         Err(fault) => Err(fault),
     }
 }
 
-/// The lines of the least length, with the first tour that has it, from what a search answered. `Memory` comes only where
-/// memory runs out.
-fn shortest_lines(alloc: Global, problem: &Tours, answer: Answer<()>) -> Result<Vec<u8>, Memory>
+/// The lines of the least length, with the first tour that has it, from the worth and the path of a best node. `Memory`
+/// comes only where memory runs out.
+fn shortest_lines(
+    alloc: Global,
+    problem: &Tours,
+    worth: u64,
+    path: Option<Path>,
+) -> Result<Vec<u8>, Memory>
     requires root { IsNode problem.now (root_of problem.now) }
     requires limits { IsWithinLimits problem.now }
-    requires answer { IsBestAnswer (tours_tree problem.now) answer }
+    requires best { IsBest (tours_tree problem.now) worth path }
     ensures lines { IfOk result (λ lines. lines.items ≡ tour_lines problem.now (first_node (tours_tree problem.now))) }
     ensures right { IfOk result (λ lines. IsBestText problem.now lines.items) }
 {
     tree_tours(problem);
-    let (worth, path) = match answer {
-        Answer::Best { worth, path } => (worth, path),
-        Answer::Count(_) | Answer::Reach(_) => unreachable!(),
-    };
     let path = match path {
         Some(path) => path,
         None => unreachable!(),

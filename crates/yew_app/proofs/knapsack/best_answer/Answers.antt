@@ -20,7 +20,7 @@ pub best_text-requires-clause-worth : goal.best_text-requires-clause-worth
 best_text-requires-clause-worth g c =
     let instance = c.args.problem.now in
     let t = knapsack_tree instance in
-    let best : IsBest t c.in-Best.worth c.in-Best.path = rw c.in-Best.is at c.in-Ok.ensures.answer in
+    let best : IsBest t c.in-Ok.found.worth c.in-Ok.found.path = c.in-Ok.ensures.best in
     let first : first_best t ≡ Some c.in-Some.path.numbers = sym best.path_is ∙ ap numbers_of c.in-Some.is in
     best.worth_is
     ∙ sym (rebuilt-best t (knapsack-ranked instance) c.requires.root c.in-Some.path.numbers c.in_ok-node.node first c.in_ok-node.ensures)
@@ -31,7 +31,7 @@ returns-clause-lines g c =
     let t = knapsack_tree instance in
     let path = c.in-Some.path.numbers in
     let node = c.in_ok-node.node in
-    let best : IsBest t c.in-Best.worth c.in-Best.path = rw c.in-Best.is at c.in-Ok.ensures.answer in
+    let best : IsBest t c.in-Ok.found.worth c.in-Ok.found.path = c.in-Ok.ensures.best in
     let first : first_best t ≡ Some path = sym best.path_is ∙ ap numbers_of c.in-Some.is in
     let there = first_node-some t path node first (member-at_path t (knapsack-ranked instance) c.requires.root path node c.in_ok-node.ensures) in
     c.in_ok-best_text.ensures.text

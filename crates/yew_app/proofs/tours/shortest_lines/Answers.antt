@@ -22,7 +22,7 @@ pub best_text-requires-clause-worth : goal.best_text-requires-clause-worth
 best_text-requires-clause-worth c =
     let instance = c.args.problem.now in
     let t = tours_tree instance in
-    let best : IsBest t c.in-Best.worth c.in-Best.path = rw c.in-Best.is at c.requires.answer in
+    let best : IsBest t c.args.worth c.args.path = c.requires.best in
     let first : first_best t ≡ Some c.in-Some.path.numbers = sym best.path_is ∙ ap numbers_of c.in-Some.is in
     best.worth_is
     ∙ sym (rebuilt-best t (tours-ranked instance) c.requires.root c.in-Some.path.numbers c.in_ok-node.node first c.in_ok-node.ensures)
@@ -31,12 +31,12 @@ pub returns-clause-lines : goal.returns-clause-lines
 returns-clause-lines c =
     let instance = c.args.problem.now in
     let t = tours_tree instance in
-    let best : IsBest t c.in-Best.worth c.in-Best.path = rw c.in-Best.is at c.requires.answer in
+    let best : IsBest t c.args.worth c.args.path = c.requires.best in
     let first : first_best t ≡ Some c.in-Some.path.numbers = sym best.path_is ∙ ap numbers_of c.in-Some.is in
     let at = member-at_path t (tours-ranked instance) c.requires.root c.in-Some.path.numbers c.in_ok-node.node c.in_ok-node.ensures in
     let node : first_node t ≡ Some c.in_ok-node.node = first_node-some t c.in-Some.path.numbers c.in_ok-node.node first at in
     let same =
     ap (λ worth. best_lines (2 ^ 37 - worth) (cities_of c.in_ok-node.node)) best.worth_is
     ∙ ap (tour_lines instance) (sym node) in
-    IfOk-weaker c.best_text.result (λ text. text.items ≡ best_lines (2 ^ 37 - c.in-Best.worth) (cities_of c.in_ok-node.node)) (λ text. text.items ≡ tour_lines instance (first_node t))
+    IfOk-weaker c.best_text.result (λ text. text.items ≡ best_lines (2 ^ 37 - c.args.worth) (cities_of c.in_ok-node.node)) (λ text. text.items ≡ tour_lines instance (first_node t))
     (λ text is. is ∙ same) c.best_text.ensures.text
