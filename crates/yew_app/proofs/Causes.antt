@@ -2,14 +2,13 @@
 use Rattle.std.proofs.Common.{◌≡◌, ℕ, List, Some, true, refl}
 use Rattle.yew_words.specs.Word.{Word}
 use Rattle.yew_io.specs.Faults.{Rose}
-use Rattle.yew_app.specs.Refusals.{Reason, BadUsage, NotBuilt, CannotRead, NotInGrammar, TooLong, TooLarge, FullAudit, CannotWrite, NoMemory}
+use Rattle.yew_app.specs.Refusals.{Reason, BadUsage, CannotRead, NotInGrammar, TooLong, TooLarge, FullAudit, CannotWrite, NoMemory}
 use Rattle.yew_app.specs.Runs.{IsCause}
 use Rattle.yew_app.specs.Outcomes.{Outside, HasCause}
 
 -- where nothing was written, the cause is that for which no text was made
 pub has-cause : (words : List Word) (before after : Outside) (reason : Reason) → IsCause words before.files reason → ((name : List ℕ) → reason ≡ CannotRead name → Rose before.read_faults after.read_faults × (after.failed ≡ true) × (after.file ≡ Some name)) → after.answer ≡ before.answer → HasCause words before after reason
 has-cause words before after (BadUsage place kind) cause read none = (cause, none)
-has-cause words before after NotBuilt cause read none = (cause, none)
 has-cause words before after (CannotRead name) cause read none = let r = read name refl in (cause, r.0, r.1, r.2, none)
 has-cause words before after (NotInGrammar name at kind) cause read none = (cause, none)
 has-cause words before after (TooLong name) cause read none = (cause, none)

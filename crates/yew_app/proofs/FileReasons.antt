@@ -9,7 +9,7 @@ use Rattle.yew_io.specs.Shelf.{File, bytes_of}
 use Rattle.yew_io.specs.Reading.{IsWhole, IsLonger}
 use Rattle.yew_app.specs.Judging.{IsRead, IsUnread, RefusesBytes, IsRefusedFile, IsFileReason}
 use Rattle.yew_app.specs.Reasons.{reason_of_end}
-use Rattle.yew_app.specs.Refusals.{Reason, BadUsage, NotBuilt, CannotRead, NotInGrammar, TooLong, TooLarge, CannotWrite, NoMemory, FullAudit}
+use Rattle.yew_app.specs.Refusals.{Reason, BadUsage, CannotRead, NotInGrammar, TooLong, TooLarge, CannotWrite, NoMemory, FullAudit}
 
 module _ {X : Type 0} (IsGood : List ℕ → X → Type 0) (IsOffence : List ℕ → TextKind → ℕ → Type 0) (IsPast : List ℕ → ℕ → ℕ → Type 0) where
   -- what the laws of a kind of file say: a file has at most one first offence and one first number past its limit, and at
@@ -50,17 +50,21 @@ module _ {X : Type 0} (IsGood : List ℕ → X → Type 0) (IsOffence : List ℕ
         let same_name : f ≡ g = p.0 ∙ sym q.0 in
         rw (same_number, same_limit, same_name) refl
     one_reason name bytes (BadUsage place kind) b p q = absurd p
-    one_reason name bytes NotBuilt b p q = absurd p
     one_reason name bytes (CannotRead file) b p q = absurd p
     one_reason name bytes CannotWrite b p q = absurd p
     one_reason name bytes NoMemory b p q = absurd p
     one_reason name bytes (FullAudit worker entries numbers) b p q = absurd p
     one_reason name bytes a (BadUsage place kind) p q = absurd q
-    one_reason name bytes a NotBuilt p q = absurd q
     one_reason name bytes a (CannotRead file) p q = absurd q
     one_reason name bytes a CannotWrite p q = absurd q
     one_reason name bytes a NoMemory p q = absurd q
     one_reason name bytes a (FullAudit worker entries numbers) p q = absurd q
+
+    -- good bytes are read to their end, but for want of memory
+    pub good-end : (bytes : List ℕ) (value : X) (end : FileEnd) → IsGood bytes value → IsEndOf bytes end → end ≡ ends.Memory
+    good-end bytes value (ends.Refused fault) good is = absurd (laws.good_no_offence bytes value fault.kind fault.line good is)
+    good-end bytes value (ends.TooLarge number limit) good is = absurd (laws.good_none_past bytes value number limit good is)
+    good-end bytes value ends.Memory good is = refl
 
     -- and then they are not good
     pub good_not_refused : (name bytes : List ℕ) (value : X) (reason : Reason) → length bytes ≤ 2 ^ 24 → IsGood bytes value → RefusesBytes IsOffence IsPast name bytes reason → ⊥
@@ -68,7 +72,6 @@ module _ {X : Type 0} (IsGood : List ℕ → X → Type 0) (IsOffence : List ℕ
     good_not_refused name bytes value (NotInGrammar f line kind) short good q = laws.good_no_offence bytes value kind line good q.2
     good_not_refused name bytes value (TooLarge f number limit) short good q = laws.good_none_past bytes value number limit good q.2
     good_not_refused name bytes value (BadUsage place kind) short good q = q
-    good_not_refused name bytes value NotBuilt short good q = q
     good_not_refused name bytes value (CannotRead file) short good q = q
     good_not_refused name bytes value CannotWrite short good q = q
     good_not_refused name bytes value NoMemory short good q = q
@@ -116,7 +119,6 @@ module _ {X : Type 0} (IsGood : List ℕ → X → Type 0) (IsOffence : List ℕ
     reason_only files name (TooLarge file number limit) why no_fault = told_only files name (TooLarge file number limit) why.1
     reason_only files name NoMemory why no_fault = memory_only files name
     reason_only files name (BadUsage place kind) why no_fault = absurd why
-    reason_only files name NotBuilt why no_fault = absurd why
     reason_only files name CannotWrite why no_fault = absurd why
     reason_only files name (FullAudit worker entries numbers) why no_fault = absurd why
 
@@ -128,7 +130,6 @@ module _ {X : Type 0} (IsGood : List ℕ → X → Type 0) (IsOffence : List ℕ
     reason_not_fine files name (TooLarge file number limit) why no_fault = told_not_fine files name (TooLarge file number limit) why.1
     reason_not_fine files name NoMemory why no_fault = memory_not_fine files name
     reason_not_fine files name (BadUsage place kind) why no_fault = absurd why
-    reason_not_fine files name NotBuilt why no_fault = absurd why
     reason_not_fine files name CannotWrite why no_fault = absurd why
     reason_not_fine files name (FullAudit worker entries numbers) why no_fault = absurd why
 
@@ -148,7 +149,6 @@ module _ {X : Type 0} (IsGood : List ℕ → X → Type 0) (IsOffence : List ℕ
   unread_reason files name (NotInGrammar file line kind) why = absurd why
   unread_reason files name (TooLarge file number limit) why = absurd why
   unread_reason files name (BadUsage place kind) why = absurd why
-  unread_reason files name NotBuilt why = absurd why
   unread_reason files name CannotWrite why = absurd why
   unread_reason files name (FullAudit worker entries numbers) why = absurd why
 

@@ -13,7 +13,7 @@ use Rattle.yew_words.specs.declared.plan.Job.{Job}
 use Rattle.yew_words.specs.Plans.{Planned}
 use Rattle.yew_words.specs.Word.{Word}
 use Rattle.yew_app.specs.Judging.{IsRead, IsRefusedFile, IsFileReason}
-use Rattle.yew_app.specs.Refusals.{Reason, BadUsage, NotBuilt, CannotRead, NotInGrammar, TooLong, TooLarge, FullAudit, CannotWrite, NoMemory, IsFullOrMemory}
+use Rattle.yew_app.specs.Refusals.{Reason, BadUsage, CannotRead, NotInGrammar, TooLong, TooLarge, FullAudit, CannotWrite, NoMemory, IsFullOrMemory}
 use Rattle.yew_app.specs.Runs.{StopsJob, RefusesJob, FillsJob}
 use Rattle.yew_app.specs.Stops.{search_reason}
 use Rattle.yew_app.specs.Texts.{StopsSearch}
@@ -56,7 +56,6 @@ module _ (job : Job) (names : List Word) (plan : Planned) (files : Option (List 
   )
   file-stops IsOffence IsPast name among refuses NoMemory why = tt
   file-stops IsOffence IsPast name among refuses (BadUsage place kind) why = absurd why
-  file-stops IsOffence IsPast name among refuses NotBuilt why = absurd why
   file-stops IsOffence IsPast name among refuses CannotWrite why = absurd why
   file-stops IsOffence IsPast name among refuses (FullAudit worker entries numbers) why = absurd why
 

@@ -5,6 +5,7 @@ pub mod FileReasons
 pub mod FileStages
 pub mod FoundNodes
 pub mod FullAudits
+pub mod MadeFiles
 pub mod Named
 pub mod PlainAudits
 pub mod PlainTexts
@@ -12,4 +13,5 @@ pub mod Plains
 pub mod SearchedTrees
 pub mod Serving
 pub mod Stages
+pub mod TourWorths
 pub mod Writing

@@ -20,7 +20,7 @@ module _ {N : Type 0} (t : SearchTree N) where
   one-log view (log ∷ second ∷ more) h = absurd h
 
   -- the totals of the one log are those of all logs
-  totals-all : (log : LogView) → IsPlainLog t log → log.totals ≡ all_totals (seq_log t 0 ∷ [])
+  pub totals-all : (log : LogView) → IsPlainLog t log → log.totals ≡ all_totals (seq_log t 0 ∷ [])
   totals-all log is = is.totals_are ∙ ap (totals_after no_totals) (sym (append-nil (seq_log t 0)))
 
   report-plain : (report : Bool) (log : LogView) → IsPlainLog t log → (if report then report_text 1 log.totals else []) ≡ (if report then report_text 1 (all_totals (seq_log t 0 ∷ [])) else [])

@@ -1,5 +1,5 @@
 -- Words whose plan one worker can do, and what is wrong with others.
-use Rattle.std.proofs.Common.{◌≡◌, ◌≢◌, ℕ, List, Ok, Err, Result, refl, sym, ap, ap₂, subst, ◌∙◌, inl, inr}
+use Rattle.std.proofs.Common.{◌≡◌, ◌≢◌, ℕ, List, Ok, Err, Result, refl, sym, ap, ap₂, ◌∙◌, inl, inr}
 use Rattle.std.specs.Prelude.{IsOkAnd}
 use Rattle.yew_words.specs.declared.plan.Plan.{Plan}
 use Rattle.yew_words.specs.declared.plan.Usage.{Usage}
@@ -9,8 +9,8 @@ use Rattle.yew_words.specs.declared.plan.Skeleton.TheVariants.{Sequential}
 use Rattle.yew_words.specs.Word.{Word}
 use Rattle.yew_words.specs.Plans.{Planned, planned, PlanOf}
 use Rattle.yew_words.specs.Offences.{Offending}
-use Rattle.yew_app.specs.Refusals.{Reason, BadUsage, NotBuilt, CannotRead, NotInGrammar, TooLong, TooLarge, FullAudit, CannotWrite, NoMemory}
-use Rattle.yew_app.specs.Runs.{IsBuilt, IsPlain, RefusesWords}
+use Rattle.yew_app.specs.Refusals.{Reason, BadUsage, CannotRead, NotInGrammar, TooLong, TooLarge, FullAudit, CannotWrite, NoMemory}
+use Rattle.yew_app.specs.Runs.{IsPlain, RefusesWords}
 
 -- what the reader of the words says of its answer
 pub record Reads (words : List Word) (answer : Result Plan Usage) : Type 0 where
@@ -24,7 +24,6 @@ usage_reason usage other a b here there e = let same : usage ≡ other = cc in a
 pub reason-offence : (words : List Word) (usage : Usage) → Reads words (Err usage) → (reason : Reason) → RefusesWords words reason → BadUsage usage.place usage.kind ≡ reason
 reason-offence words usage reads (BadUsage place kind) (inl offends) = usage_reason usage (record { place = place; kind = kind }) (Err usage) (Err (record { place = place; kind = kind })) refl refl (reads.each_offence place kind offends)
 reason-offence words usage reads (BadUsage place kind) (inr other) = absurd (reads.each_plan other.2.plan other.2.is_plan)
-reason-offence words usage reads NotBuilt unbuilt = absurd (reads.each_plan unbuilt.plan unbuilt.is_plan)
 reason-offence words usage reads (CannotRead name) none = absurd none
 reason-offence words usage reads (NotInGrammar name at kind) none = absurd none
 reason-offence words usage reads (TooLong name) none = absurd none
@@ -40,8 +39,6 @@ no_offence words plan reads place kind offends = let e = reads.each_offence plac
 pub reason-skeleton : (words : List Word) (plan : Plan) → Reads words (Ok plan) → plan.skeleton ≢ Sequential → (reason : Reason) → RefusesWords words reason → BadUsage 2 NotHere ≡ reason
 reason-skeleton words plan reads other (BadUsage place kind) (inl offends) = absurd (no_offence words plan reads place kind offends)
 reason-skeleton words plan reads other (BadUsage place kind) (inr same) = ap₂ BadUsage (sym same.0) (sym same.1)
-reason-skeleton words plan reads other NotBuilt unbuilt =
-    absurd (other (ap (λ (p : Planned). p.skeleton) (reads.each_plan unbuilt.plan unbuilt.is_plan) ∙ unbuilt.sequential))
 reason-skeleton words plan reads other (CannotRead name) none = absurd none
 reason-skeleton words plan reads other (NotInGrammar name at kind) none = absurd none
 reason-skeleton words plan reads other (TooLong name) none = absurd none
@@ -50,33 +47,18 @@ reason-skeleton words plan reads other (FullAudit worker entries numbers) none =
 reason-skeleton words plan reads other CannotWrite none = absurd none
 reason-skeleton words plan reads other NoMemory none = absurd none
 
--- where one worker's plan asks for a part that is not there, that is what is wrong
-pub reason-unbuilt : (words : List Word) (plan : Plan) → Reads words (Ok plan) → plan.skeleton ≡ Sequential → (reason : Reason) → RefusesWords words reason → NotBuilt ≡ reason
-reason-unbuilt words plan reads sequential (BadUsage place kind) (inl offends) = absurd (no_offence words plan reads place kind offends)
-reason-unbuilt words plan reads sequential (BadUsage place kind) (inr same) =
-    absurd (same.2.other (sym (ap (λ (p : Planned). p.skeleton) (reads.each_plan same.2.plan same.2.is_plan)) ∙ sequential))
-reason-unbuilt words plan reads sequential NotBuilt unbuilt = refl
-reason-unbuilt words plan reads sequential (CannotRead name) none = absurd none
-reason-unbuilt words plan reads sequential (NotInGrammar name at kind) none = absurd none
-reason-unbuilt words plan reads sequential (TooLong name) none = absurd none
-reason-unbuilt words plan reads sequential (TooLarge name number limit) none = absurd none
-reason-unbuilt words plan reads sequential (FullAudit worker entries numbers) none = absurd none
-reason-unbuilt words plan reads sequential CannotWrite none = absurd none
-reason-unbuilt words plan reads sequential NoMemory none = absurd none
-
--- where its parts are there, nothing is wrong
-pub no_reason : (words : List Word) (plan : Plan) → Reads words (Ok plan) → plan.skeleton ≡ Sequential → IsBuilt (planned plan) → (reason : Reason) → ¬ RefusesWords words reason
-no_reason words plan reads sequential built (BadUsage place kind) (inl offends) = no_offence words plan reads place kind offends
-no_reason words plan reads sequential built (BadUsage place kind) (inr same) =
+-- where it has none, nothing is wrong
+pub no_reason : (words : List Word) (plan : Plan) → Reads words (Ok plan) → plan.skeleton ≡ Sequential → (reason : Reason) → ¬ RefusesWords words reason
+no_reason words plan reads sequential (BadUsage place kind) (inl offends) = no_offence words plan reads place kind offends
+no_reason words plan reads sequential (BadUsage place kind) (inr same) =
     same.2.other (sym (ap (λ (p : Planned). p.skeleton) (reads.each_plan same.2.plan same.2.is_plan)) ∙ sequential)
-no_reason words plan reads sequential built NotBuilt unbuilt = unbuilt.unbuilt (subst IsBuilt (reads.each_plan unbuilt.plan unbuilt.is_plan) built)
-no_reason words plan reads sequential built (CannotRead name) none = none
-no_reason words plan reads sequential built (NotInGrammar name at kind) none = none
-no_reason words plan reads sequential built (TooLong name) none = none
-no_reason words plan reads sequential built (TooLarge name number limit) none = none
-no_reason words plan reads sequential built (FullAudit worker entries numbers) none = none
-no_reason words plan reads sequential built CannotWrite none = none
-no_reason words plan reads sequential built NoMemory none = none
+no_reason words plan reads sequential (CannotRead name) none = none
+no_reason words plan reads sequential (NotInGrammar name at kind) none = none
+no_reason words plan reads sequential (TooLong name) none = none
+no_reason words plan reads sequential (TooLarge name number limit) none = none
+no_reason words plan reads sequential (FullAudit worker entries numbers) none = none
+no_reason words plan reads sequential CannotWrite none = none
+no_reason words plan reads sequential NoMemory none = none
 
 -- words that offend have no plan
 pub no_plan-offence : (words : List Word) (usage : Usage) → Reads words (Err usage) → (other : Planned) → ¬ IsPlain words other
@@ -86,7 +68,3 @@ no_plan-offence words usage reads other plain = reads.each_plan other plain.is_p
 pub no_plan-skeleton : (words : List Word) (plan : Plan) → Reads words (Ok plan) → plan.skeleton ≢ Sequential → (other : Planned) → ¬ IsPlain words other
 no_plan-skeleton words plan reads differs other plain =
     differs (ap (λ (p : Planned). p.skeleton) (reads.each_plan other plain.is_plan) ∙ plain.sequential)
-
--- and words whose plan asks for a part that is not there
-pub no_plan-unbuilt : (words : List Word) (plan : Plan) → Reads words (Ok plan) → ¬ IsBuilt (planned plan) → (other : Planned) → ¬ IsPlain words other
-no_plan-unbuilt words plan reads unbuilt other plain = unbuilt (subst IsBuilt (sym (reads.each_plan other plain.is_plan)) plain.built)

@@ -4,7 +4,7 @@ use Rattle.std.specs.Prelude.{IfSome, IsTrue}
 use Rattle.yew_words.specs.Word.{Word}
 use Rattle.yew_words.specs.Plans.{Planned, PlanOf}
 use Rattle.yew_io.specs.Shelf.{File}
-use Rattle.yew_app.specs.Refusals.{Reason, BadUsage, NotBuilt, CannotRead, NotInGrammar, TooLong, TooLarge, FullAudit, CannotWrite, NoMemory}
+use Rattle.yew_app.specs.Refusals.{Reason, BadUsage, CannotRead, NotInGrammar, TooLong, TooLarge, FullAudit, CannotWrite, NoMemory}
 use Rattle.yew_app.specs.Runs.{IsPlain, RefusesFiles, RefusesJob, FillsAudit, MeetsJob, IsFine, IsFineJob, StopsJob, IsCause}
 
 -- a fact of the files where they are told follows from another
@@ -21,7 +21,6 @@ module _ (words : List Word) (plan : Planned) (plain : IsPlain words plan) where
   -- why the plan gives no text is a cause
   pub cause-of : (files : Option (List File)) (reason : Reason) → StopsJob plan.job plan.files plan files reason → IsCause words files reason
   cause-of files (BadUsage place kind) none = absurd none
-  cause-of files NotBuilt none = absurd none
   cause-of files (CannotRead name) why = record { plan = plan; plain = plain; why = why }
   cause-of files (NotInGrammar name at kind) why = record { plan = plan; plain = plain; why = why }
   cause-of files (TooLong name) why = record { plan = plan; plain = plain; why = why }

@@ -1,5 +1,6 @@
 pub mod Judging
 pub mod Knapsacks
+pub mod MadeTexts
 pub mod Outcomes
 pub mod Reasons
 pub mod Refusals

@@ -6,11 +6,10 @@ use Rattle.yew_app.specs.declared.refusal.Refusal.{Refusal}
 use Rattle.yew_app.specs.declared.refusal.Refusal.TheVariants as refusals
 use Rattle.yew_app.specs.declared.refusal.Piece.{Piece}
 use Rattle.yew_app.specs.declared.refusal.Piece.TheVariants as pieces
-use Rattle.yew_app.specs.Refusals.{Reason, BadUsage, NotBuilt, CannotRead, NotInGrammar, TooLong, TooLarge, CannotWrite, NoMemory, FullAudit}
+use Rattle.yew_app.specs.Refusals.{Reason, BadUsage, CannotRead, NotInGrammar, TooLong, TooLarge, CannotWrite, NoMemory, FullAudit}
 
 abbrev pub reason_of : Refusal → Reason
 reason_of (refusals.Usage usage) = BadUsage usage.place usage.kind
-reason_of refusals.NotBuilt = NotBuilt
 reason_of (refusals.ReadFault name) = CannotRead name.now
 reason_of (refusals.NotInGrammar name fault) = NotInGrammar name.now fault.line fault.kind
 reason_of (refusals.TooLong name) = TooLong name.now

@@ -8,7 +8,6 @@ use Rattle.yew_text.specs.declared.text.TextKind.TheVariants as text
 -- why a run did not answer; names of files as their bytes
 pub data Reason : Type 0 where
   BadUsage : (place : ℕ) (kind : UsageKind) → Reason
-  NotBuilt : Reason
   CannotRead : (name : List ℕ) → Reason
   NotInGrammar : (name : List ℕ) (at : ℕ) (kind : TextKind) → Reason
   TooLong : (name : List ℕ) → Reason
@@ -41,7 +40,6 @@ line_of (piece ∷ pieces) = piece ++ line_of pieces
 -- the line that is written to the sink of faults
 abbrev pub fault_line : Reason → List ℕ
 fault_line (BadUsage place kind) = line_of (codes "yew: " ∷ codes "word " ∷ decimal place ∷ codes ": " ∷ usage_words kind ∷ [])
-fault_line NotBuilt = line_of (codes "yew: " ∷ codes "not built" ∷ [])
 fault_line (CannotRead name) = line_of (codes "yew: " ∷ name ∷ codes ": read fault" ∷ [])
 fault_line (NotInGrammar name at kind) = line_of (codes "yew: " ∷ name ∷ codes ": line " ∷ decimal at ∷ codes ": " ∷ text_words kind ∷ [])
 fault_line (TooLong name) = line_of (codes "yew: " ∷ name ∷ codes ": longer than 16777216 bytes" ∷ [])
@@ -53,7 +51,6 @@ fault_line (FullAudit worker entries numbers) =
 
 abbrev pub status_of : Reason → ℕ
 status_of (BadUsage place kind) = 1
-status_of NotBuilt = 1
 status_of (CannotRead name) = 2
 status_of (NotInGrammar name at kind) = 3
 status_of (TooLong name) = 4

@@ -1,12 +1,11 @@
 -- What a run does: which text it writes, and why it does not.
-use Rattle.std.specs.Prelude.{◌≡◌, ◌≢◌, ℕ, ◌⊎◌, List, [], ◌∷◌, Option, IfSome, Contains, IsTrue, IsFalse, Bool}
+use Rattle.std.specs.Prelude.{◌≡◌, ◌≢◌, ℕ, ◌⊎◌, List, [], ◌∷◌, Option, IfSome, Contains, IsTrue}
 use Rattle.yew_kinds.specs.Wrappers.{counted_tree}
 use Rattle.yew_lad.specs.Digraphs.{Digraph, GraphPair}
 use Rattle.yew_lad.specs.Files.{IsGraphOffence, IsPastLimit as IsPastVertices}
 use Rattle.yew_log.specs.AuditFull.{IsAuditFull, MeetsLimits}
 use Rattle.yew_log.specs.Groups.{sequential}
 use Rattle.yew_log.specs.SeqLog.{seq_log}
-use Rattle.yew_make.specs.Texts.{made_text}
 use Rattle.yew_semi.specs.SemigroupTree.{semigroup_tree}
 use Rattle.yew_words.specs.declared.plan.Job.{Job}
 use Rattle.yew_words.specs.declared.plan.Job.TheVariants as jobs
@@ -23,24 +22,16 @@ use Rattle.yew_tsp.specs.Files.{IsTourOffence, IsPastLimit as IsPastWeight}
 use Rattle.yew_tsp.specs.Answers.{tours_tree}
 use Rattle.yew_app.specs.Judging.{IsRead, IsRefusedFile}
 use Rattle.yew_app.specs.Knapsacks.{IsGoodKnapsack, searched_knapsack, IsKnapsackText}
-use Rattle.yew_app.specs.Refusals.{Reason, BadUsage, NotBuilt, CannotRead, NotInGrammar, TooLong, TooLarge, FullAudit, CannotWrite, NoMemory}
+use Rattle.yew_app.specs.MadeTexts.{IsMadeText}
+use Rattle.yew_app.specs.Refusals.{Reason, BadUsage, CannotRead, NotInGrammar, TooLong, TooLarge, FullAudit, CannotWrite, NoMemory}
 use Rattle.yew_app.specs.Semigroups.{IsCountsText}
 use Rattle.yew_app.specs.ShortestTours.{IsGoodTours, IsToursText}
 use Rattle.yew_app.specs.Subgraphs.{IsGoodGraph, searched_maps, IsMapText}
 
--- the parts that are there: all but the solving of what is made
-abbrev pub IsBuiltJob : Job → Bool → Type 0
-IsBuiltJob (jobs.Make made) solve = IsFalse solve
-IsBuiltJob _ solve = Unit {0}
-
-abbrev pub IsBuilt : Planned → Type 0
-IsBuilt plan = IsBuiltJob plan.job plan.solve
-
--- the words are this plan, which one worker does in preorder, and its parts are there
+-- the words are this plan, which one worker does in preorder
 pub record IsPlain (words : List Word) (plan : Planned) : Type 0 where
   pub is_plan : PlanOf words plan
   pub sequential : plan.skeleton ≡ Sequential
-  pub built : IsBuilt plan
 
 -- the words have a plan with another skeleton
 pub record HasOtherSkeleton (words : List Word) : Type 0 where
@@ -48,17 +39,9 @@ pub record HasOtherSkeleton (words : List Word) : Type 0 where
   pub is_plan : PlanOf words plan
   pub other : plan.skeleton ≢ Sequential
 
--- the words have a plan for one worker of a part that is not there
-pub record HasUnbuilt (words : List Word) : Type 0 where
-  pub plan : Planned
-  pub is_plan : PlanOf words plan
-  pub sequential : plan.skeleton ≡ Sequential
-  pub unbuilt : ¬ IsBuilt plan
-
 -- what is wrong with the words, whatever the files are
 abbrev pub RefusesWords : List Word → Reason → Type 0
 RefusesWords words (BadUsage place kind) = Offending words place kind ⊎ ((place ≡ 2) × (kind ≡ NotHere) × HasOtherSkeleton words)
-RefusesWords words NotBuilt = HasUnbuilt words
 RefusesWords words _ = ⊥
 
 -- two graphs that were read from the files of these names, the pattern first
@@ -72,13 +55,13 @@ AnswersJob jobs.Knapsack (name ∷ []) plan told text = (instance : Knapsack) ×
 AnswersJob jobs.Tsp (name ∷ []) plan told text = (instance : Cities) × IsRead IsGoodTours told name instance × IsToursText instance plan.report plan.audit text
 AnswersJob jobs.Subgraph (pattern ∷ target ∷ []) plan told text = (pair : GraphPair) × ReadsPair told pattern target pair × IsMapText pair plan.report plan.audit text
 AnswersJob jobs.Semigroups [] plan told text = IsCountsText plan.genus plan.report plan.audit text
-AnswersJob (jobs.Make made) [] plan told text = text ≡ made_text made plan.seed plan.size
+AnswersJob (jobs.Make made) [] plan told text = IsMadeText made plan.solve plan.seed plan.size text
 AnswersJob _ files plan told text = ⊥
 
 -- what is so of the text whatever the files are: it is what one worker writes where the plan has none
 abbrev pub AnswersAlways : Job → Planned → List ℕ → Type 0
 AnswersAlways jobs.Semigroups plan text = IsCountsText plan.genus plan.report plan.audit text
-AnswersAlways (jobs.Make made) plan text = text ≡ made_text made plan.seed plan.size
+AnswersAlways (jobs.Make made) plan text = IsMadeText made plan.solve plan.seed plan.size text
 AnswersAlways _ plan text = Unit {0}
 
 -- why the files of a plan are refused: the first that is not fine
@@ -166,7 +149,6 @@ pub record StopsWords (words : List Word) (files : Option (List File)) (reason :
 -- why no text is made: the words are refused, or their plan gives none
 abbrev pub IsCause : List Word → Option (List File) → Reason → Type 0
 IsCause words files (BadUsage place kind) = RefusesWords words (BadUsage place kind)
-IsCause words files NotBuilt = RefusesWords words NotBuilt
 IsCause words files CannotWrite = ⊥
 IsCause words files NoMemory = Unit {0}
 IsCause words files reason = StopsWords words files reason

@@ -8,6 +8,7 @@
 
 mod best;
 mod knapsack;
+mod made;
 mod nodes;
 mod plan;
 mod reading;

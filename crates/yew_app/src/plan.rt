@@ -1,25 +1,15 @@
-//! The plan of the words, where one worker can do it and its parts are there.
+//! The plan of the words, where one worker can do it.
 
-ghost use Rattle.std.specs.Prelude.{◌≡◌, ◌↔◌, ◌∷◌, [], IsTrue, IfOk, IfErr, IsErrAnd};
+ghost use Rattle.std.specs.Prelude.{◌≡◌, ◌∷◌, [], IfOk, IfErr, IsErrAnd};
 ghost use Rattle.yew_words.specs.Word.{texts};
 ghost use Rattle.yew_words.specs.Plans.{Planned, planned, PlanOf};
 ghost use Rattle.yew_words.specs.Ranges.{IsWithin, file_count_of};
 ghost use Rattle.yew_app.specs.Reasons.{reason_of};
 ghost use Rattle.yew_app.specs.Refusals.{Reason};
-ghost use Rattle.yew_app.specs.Runs.{IsBuilt, IsPlain, RefusesWords};
+ghost use Rattle.yew_app.specs.Runs.{IsPlain, RefusesWords};
 
 use crate::refusal::Refusal;
-use yew_words::{Job, Plan, Skeleton, Usage, UsageKind, read_words};
-
-/// Whether the parts that the plan asks for are there.
-fn is_built(plan: &Plan) -> bool
-    ensures { IsTrue result ↔ IsBuilt (planned plan.now) }
-{
-    match plan.job {
-        Job::Make(_) => !plan.solve,
-        Job::Knapsack | Job::Tsp | Job::Subgraph | Job::Semigroups => true,
-    }
-}
+use yew_words::{Plan, Skeleton, Usage, UsageKind, read_words};
 
 /// The plan of the words, or what is wrong with them. A plan with another skeleton than `sequential` is refused at its
 /// second word.
@@ -43,9 +33,6 @@ pub(crate) fn read_plain<'a>(words: &'a [String]) -> Result<Plan<'a>, Refusal<'a
                 kind: UsageKind::NotHere,
             }));
         }
-    }
-    if !is_built(&plan) {
-        return Err(Refusal::NotBuilt);
     }
     Ok(plan)
 }

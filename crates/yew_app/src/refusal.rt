@@ -16,8 +16,6 @@ use yew_words::{Usage, UsageKind};
 pub enum Refusal<'a> {
     /// A word offends.
     Usage(Usage),
-    /// The words have a plan of a part that is not there yet.
-    NotBuilt,
     /// The shelf failed at this file.
     ReadFault(&'a str),
     /// The file is not in its grammar.
@@ -59,7 +57,7 @@ impl<'a> Refusal<'a> {
         ensures { result ≡ status_of (reason_of self.entry) }
     {
         match self {
-            Refusal::Usage(_) | Refusal::NotBuilt => 1,
+            Refusal::Usage(_) => 1,
             Refusal::ReadFault(_) => 2,
             Refusal::NotInGrammar(_, _) => 3,
             Refusal::TooLong(_) | Refusal::TooLarge { .. } | Refusal::AuditFull { .. } => 4,
@@ -171,7 +169,6 @@ fn pieces_of<'a>(refusal: Refusal<'a>) -> [Piece<'a>; 8]
             let kind = Piece::Text(usage_text(usage.kind));
             [start, word, place, colon, kind, end, none, none]
         }
-        Refusal::NotBuilt => text_line("not built"),
         Refusal::ReadFault(name) => name_line(name, ": read fault"),
         Refusal::NotInGrammar(name, fault) => grammar_line(name, fault),
         Refusal::TooLong(name) => name_line(name, ": longer than 16777216 bytes"),

@@ -60,9 +60,9 @@ fn refuse<E: Sink>(sink: &mut E, refusal: Refusal) -> u8
 /// Does what the words ask for, by one worker, and always returns.
 ///
 /// The status is 0 where the whole text was written to `out`: a right answer to what the words ask of the files, with the
-/// report and the audit that they ask for, and nothing went to `err`. Otherwise one line on `err` says why: 1, a word
-/// offends, or the plan has another skeleton than `sequential`, or a part that is not built; 2, the shelf failed at a file
-/// of the plan; 3, a file is not in its grammar; 4, a file or a number of it is past a limit, or the audit has no room for
+/// report and the audit that they ask for, or what they ask to be made, and nothing went to `err`. Otherwise one line on
+/// `err` says why: 1, a word offends, or the plan has another skeleton than `sequential`; 2, the shelf failed at a file of
+/// the plan; 3, a file is not in its grammar; 4, a file or a number of it is past a limit, or the audit has no room for
 /// the search; 5, `out` failed, and has a prefix of the text; 6, memory ran out, which may come at any point. `out`
 /// receives nothing under the statuses 1, 2, 3, 4 and 6, and a fault of `err` changes nothing else.
 pub fn run_plain<'a, S: Shelf<'a>, K: Sink, E: Sink>(

@@ -12,6 +12,7 @@ ghost use Rattle.yew_app.specs.Runs.{AnswersJob, AnswersAlways, RefusesJob, Meet
 ghost use Rattle.yew_app.specs.Stops.{search_reason};
 
 use crate::knapsack::knapsack_text;
+use crate::made::text_of_made;
 use crate::plan::{both_files, only_file};
 use crate::reading::{read_graph, read_knapsack, read_tours};
 use crate::refusal::Refusal;
@@ -23,7 +24,6 @@ use std::alloc::Global;
 use yew_io::Shelf;
 use yew_lad::pair;
 use yew_laws::Memory;
-use yew_make::make_text;
 use yew_walk::SearchFault;
 use yew_words::{Job, Plan};
 
@@ -59,7 +59,7 @@ pub(crate) fn solve<'a, S: Shelf<'a>>(
             Ok(text) => Ok(text),
             Err(fault) => Err(stopped(fault)),
         },
-        Job::Make(made) => match make_text(alloc, made, plan.seed, plan.size) {
+        Job::Make(made) => match text_of_made(alloc, made, plan.seed, plan.size, plan.solve) {
             Ok(text) => Ok(text),
             Err(Memory) => Err(Refusal::Memory),
         },

@@ -27,7 +27,7 @@ pub(crate) struct Answered<R> {
 }
 
 /// Appends a line of a word and a count.
-fn push_count_line(out: &mut Vec<u8>, word: &[u8], count: u64) -> Result<(), Memory>
+pub(crate) fn push_count_line(out: &mut Vec<u8>, word: &[u8], count: u64) -> Result<(), Memory>
     ensures { OnOk result (out.new.items ≡ out.old.items ++ line (word.now ++ count_text count)) }
 {
     push_text(out, word)?;

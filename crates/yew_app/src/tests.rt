@@ -193,16 +193,16 @@ fn answers_and_refusals(rt: HostRuntime) -> Result<(), Fail> {
         ),
         ("tsp sequential k1", 3, "", "yew: k1: line 1: bad line\n"),
         (
-            "make knapsack --seed 1 --size 3 --solve",
+            "make knapsack --seed 1 --size 3 --solve --report",
             1,
             "",
-            "yew: not built\n",
+            "yew: word 8: not here\n",
         ),
         (
-            "make tsp --solve --seed 1 --size 3",
+            "make tsp --solve --seed 1 --audit --size 3",
             1,
             "",
-            "yew: not built\n",
+            "yew: word 6: not here\n",
         ),
         (
             "make lad --seed 1 --solve --size 3",
@@ -1058,6 +1058,18 @@ fn made_texts(rt: HostRuntime) -> Result<(), Fail> {
             "make tsp --seed 42 --size 3",
             0,
             "NAME: made\nTYPE: TSP\nDIMENSION: 3\nEDGE_WEIGHT_TYPE: EXPLICIT\nEDGE_WEIGHT_FORMAT: UPPER_ROW\nEDGE_WEIGHT_SECTION\n784 98\n825\nEOF\n",
+            "",
+        ),
+        (
+            "make knapsack --seed 42 --size 2 --solve",
+            0,
+            "made knapsack 2 42\nbest 784\nvisited 2\ncut 0\n",
+            "",
+        ),
+        (
+            "make tsp --solve --seed 42 --size 3",
+            0,
+            "made tsp 3 42\nbest 1707\nvisited 4\ncut 1\n",
             "",
         ),
         (

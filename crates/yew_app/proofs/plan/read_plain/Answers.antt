@@ -1,7 +1,7 @@
 use Rattle.std.proofs.Common.{refl, inr}
 use Rattle.yew_words.specs.Word.{texts}
 use Rattle.yew_words.specs.Plans.{planned}
-use Rattle.yew_app.proofs.Plains.{reason-offence, reason-skeleton, no_reason, no_plan-offence, no_plan-skeleton, no_plan-unbuilt}
+use Rattle.yew_app.proofs.Plains.{reason-offence, reason-skeleton, no_reason, no_plan-offence, no_plan-skeleton}
 use Rattle.yew_app.proofs.plan.read_plain.Goals as goal
 
 pub returns-in-Err-clause-each_reason : goal.returns-in-Err-clause-each_reason
@@ -27,19 +27,11 @@ returns-in_default c = record {
 
 pub returns-clause-each_reason : goal.returns-clause-each_reason
 returns-clause-each_reason c =
-    let built = c.is_built.ensures in
-    let test = c.if-not-is_built.false in
     no_reason (texts c.args.words.now) c.in-Ok.plan
     (record { each_plan = c.in-Ok.ensures.each_plan; each_offence = c.in-Ok.ensures.each_offence })
-    c.in-Sequential.is (built.0 test)
+    c.in-Sequential.is
 
 pub returns-in-Err-clause-no_plan : goal.returns-in-Err-clause-no_plan
 returns-in-Err-clause-no_plan c =
     no_plan-offence (texts c.args.words.now) c.in-Err.usage
     (record { each_plan = c.in-Err.ensures.each_plan; each_offence = c.in-Err.ensures.each_offence })
-
-pub returns-then-not-is_built-clause-no_plan : goal.returns-then-not-is_built-clause-no_plan
-returns-then-not-is_built-clause-no_plan c =
-    no_plan-unbuilt (texts c.args.words.now) c.in-Ok.plan
-    (record { each_plan = c.in-Ok.ensures.each_plan; each_offence = c.in-Ok.ensures.each_offence })
-    (λ built. let test = c.if-not-is_built.true in let same = c.is_built.ensures.1 built in cc)
