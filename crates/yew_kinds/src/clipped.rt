@@ -59,18 +59,22 @@ impl<'a, P: Problem> Problem for Clipped<'a, P> {
         self.inner.root(alloc)
     }
 
+    #[inline(always)]
     fn open(&self, alloc: Global, node: P::Node) -> Result<P::Kids, Memory> {
         self.inner.open(alloc, node)
     }
 
+    #[inline(always)]
     fn next(&self, alloc: Global, kids: &mut P::Kids) -> Result<Option<P::Node>, Memory> {
         self.inner.next(alloc, kids)
     }
 
+    #[inline(always)]
     fn worth(&self, node: &P::Node) -> u64 {
         u64::from(self.target <= self.inner.worth(node))
     }
 
+    #[inline(always)]
     fn bound(&self, node: &P::Node) -> u64 {
         u64::from(self.target <= self.inner.bound(node))
     }

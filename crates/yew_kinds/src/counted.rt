@@ -42,18 +42,22 @@ impl<'a, P: Problem> Problem for Counted<'a, P> {
         self.inner.root(alloc)
     }
 
+    #[inline(always)]
     fn open(&self, alloc: Global, node: P::Node) -> Result<P::Kids, Memory> {
         self.inner.open(alloc, node)
     }
 
+    #[inline(always)]
     fn next(&self, alloc: Global, kids: &mut P::Kids) -> Result<Option<P::Node>, Memory> {
         self.inner.next(alloc, kids)
     }
 
+    #[inline(always)]
     fn worth(&self, _node: &P::Node) -> u64 {
         0
     }
 
+    #[inline(always)]
     fn bound(&self, _node: &P::Node) -> u64 {
         1
     }
