@@ -103,7 +103,7 @@ module _ {S N K : Type 0} (meaning : Ghosts S N K) (problem : S) where
 
   enters-turns_left : {Sum : Type 0} (keying : Keying) (join : Sum → Sum → Sum) (of : N → ℕ → Sum) → Falls → (event : Event) (path : List ℕ) (node : N) → IsTask meaning problem path node → (old_seat new_seat : SeatView) (old_hand new_hand : Hand Sum) (old_log new_log : LogView) (old new : List (LevelValue K)) → Enters meaning problem keying path node join of event old_seat old_hand old_log old new_seat new_hand new_log new → turns_left meaning problem new < 2 * length (node_tree meaning problem node) + turns_left meaning problem old
   enters-turns_left keying join of ranked Visited path node is old_seat new_seat old_hand new_hand old_log new_log old new e =
-      let pushed = ap (turns_left meaning problem) e.stack_is ∙ push-turns_left meaning problem old path node e.kids e.kids_are in
+      let pushed = ap (turns_left meaning problem) e.opens.stack_is ∙ push-turns_left meaning problem old path node e.opens.kids e.opens.kids_are in
       let unfolds = ap length (tree-unfolds ranked node is.is_sound) in
       omega (arith, pushed, unfolds)
   enters-turns_left keying join of ranked CutOff path node is old_seat new_seat old_hand new_hand old_log new_log old new e =

@@ -195,11 +195,11 @@ module _ {S N K Sum Q : Type 0} (meaning : Ghosts S N K) (problem : S) (keying :
   enters-visit : Falls → (first now after : Scene S N K Sum Q) (stack new : List (LevelValue K)) (path : List ℕ) (node : N) → IsTask meaning problem path node → AwaitsNode first now stack path node → EntersVisit meaning problem keying path node join of now.seat now.hand now.log stack after.seat after.hand after.log new → IsWithin after.log.told → after.state ≡ now.state → after.sent ≡ now.sent → after.answers ≡ now.answers → Happened first after new Visited (length path)
   enters-visit ranked first now after stack new path node is a e within same_state same_sent same_answers =
       let note : Note = visited path e.worth e.held in
-      let level : LevelValue K = record { parent = path; given = 0; kids = e.kids } in
+      let level : LevelValue K = record { parent = path; given = 0; kids = e.opens.kids } in
       let way = underway-visit meaning problem keying task ranked first.seat now.seat after.seat a.notes a.frames (levels (meaning.remaining problem) stack) path node e.worth e.held is a.way a.next e.is_visit in
-      let levels_are = ap (λ ns. levels (meaning.remaining problem) stack ++ record { parent = path; given = 0; remaining = ns } ∷ []) (sym e.kids_are)
+      let levels_are = ap (λ ns. levels (meaning.remaining problem) stack ++ record { parent = path; given = 0; remaining = ns } ∷ []) (sym e.opens.kids_are)
       ∙ sym (map-append (level_of (meaning.remaining problem)) stack (level ∷ []))
-      ∙ ap (levels (meaning.remaining problem)) (sym e.stack_is) in
+      ∙ ap (levels (meaning.remaining problem)) (sym e.opens.stack_is) in
       record {
         notes = a.notes;
         note = note;

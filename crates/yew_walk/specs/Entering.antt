@@ -17,6 +17,12 @@ use Rattle.yew_walk.specs.Keys.{answer_key}
 use Rattle.yew_walk.specs.LogViews.{LogView, noted, log_after, RefusesNote}
 use Rattle.yew_walk.specs.Verdicts.{IsVisit, IsCut}
 
+-- the children of a node at a path are a new level
+pub record OpensLevel {S N K : Type 0} (meaning : Ghosts S N K) (problem : S) (path : List ℕ) (node : N) (old_stack new_stack : List (LevelValue K)) : Type 0 where
+  pub kids : K
+  pub kids_are : meaning.remaining problem kids ≡ meaning.children problem node
+  pub stack_is : new_stack ≡ old_stack ++ record { parent = path; given = 0; kids = kids } ∷ []
+
 module _ {S N K : Type 0} (meaning : Ghosts S N K) (problem : S) (keying : Keying) (path : List ℕ) (node : N) where
   -- the entry by which the node is visited or cut, as the seat read and offered
   abbrev pub Judges : Note → SeatView → SeatView → Type 0
@@ -35,13 +41,11 @@ module _ {S N K : Type 0} (meaning : Ghosts S N K) (problem : S) (keying : Keyin
     pub record EntersVisit (old_seat : SeatView) (old_hand : Hand Sum) (old_log : LogView) (old_stack : List (LevelValue K)) (new_seat : SeatView) (new_hand : Hand Sum) (new_log : LogView) (new_stack : List (LevelValue K)) : Type 0 where
       pub worth : ℕ
       pub held : ℕ
-      pub kids : K
       pub is_visit : IsVisit meaning problem keying path node worth held old_seat new_seat
       pub log_is : new_log ≡ noted old_log NotedVisit path worth held
       pub best_is : incumbent_of new_hand ≡ improved (incumbent_of old_hand) (answer_key keying worth) path
       pub sum_is : new_hand.sum ≡ join old_hand.sum (of node (length path))
-      pub kids_are : meaning.remaining problem kids ≡ meaning.children problem node
-      pub stack_is : new_stack ≡ old_stack ++ record { parent = path; given = 0; kids = kids } ∷ []
+      pub opens : OpensLevel meaning problem path node old_stack new_stack
 
     -- the node was cut: that is recorded, and all else stays
     pub record EntersCut (old_seat : SeatView) (old_hand : Hand Sum) (old_log : LogView) (old_stack : List (LevelValue K)) (new_seat : SeatView) (new_hand : Hand Sum) (new_log : LogView) (new_stack : List (LevelValue K)) : Type 0 where

@@ -4,7 +4,7 @@ ghost use Rattle.std.specs.Prelude.{◌≡◌, ℕ, ◌<◌, ◌≤◌, List, []
 ghost use Rattle.yew_laws.specs.SearchTree.{IsTask};
 ghost use Rattle.yew_stack.specs.Descents.{IsAtNode};
 ghost use Rattle.yew_stack.specs.ToCome.{turns_left, AllOpen};
-ghost use Rattle.yew_walk.specs.Entering.{Enters, StopsEntering};
+ghost use Rattle.yew_walk.specs.Entering.{OpensLevel, Enters, StopsEntering};
 ghost use Rattle.yew_walk.specs.Keys.{IsKeying};
 ghost use Rattle.yew_walk.specs.LogViews.{log_view, IsWithin};
 ghost use Rattle.yew_walk.specs.Scenes.{Scene, scene, IsWalking, IsWalked, IsRefused};
@@ -19,9 +19,27 @@ use crate::verdict::{Verdict, judge};
 use std::alloc::Global;
 use yew_best::{Best, BestSeat};
 use yew_kinds::Tally;
-use yew_laws::{Problem, Task};
+use yew_laws::{Memory, Problem, Task};
 use yew_log::{Recorder, What};
 use yew_stack::{Descent, Step};
+
+/// Opens the level of the node at which the descent stands. It is a function of its own since a generator can be large, and
+/// most nodes are cut off and need none.
+#[inline(always)]
+fn go_down<P: Problem>(
+    alloc: Global,
+    problem: &P,
+    node: P::Node,
+    stack: &mut Descent<P>,
+) -> Result<(), Memory>
+    requires root { P.sound problem.now (P.root problem.now) }
+    requires node { P.sound problem.now node }
+    requires stands { IsAtNode stack.old }
+    ensures { OnOk result (OpensLevel P.Problem problem.now stack.old.path node stack.old.levels stack.new.levels) }
+{
+    let kids = problem.open(alloc, node)?;
+    stack.open(kids)
+}
 
 /// Visits the node at which the descent stands or cuts it off, and records it. A visited node is taken into account, and
 /// its children are a new level.
@@ -70,13 +88,9 @@ fn enter<P: Problem, T: Tally<P::Node>, R: Recorder>(
             let depth = stack.path().numbers().len() as u32;
             tally.note(&mut hand.sum, &node, depth);
             hand.keep(keying, worth, stack.path());
-            let kids = match problem.open(alloc, node) {
-                Ok(kids) => kids,
-                Err(_) => return Err(SearchFault::Memory),
-            };
-            match stack.open(kids) {
+            match go_down(alloc, problem, node, stack) {
                 Ok(()) => Ok(Event::Visited),
-                Err(_) => Err(SearchFault::Memory),
+                Err(Memory) => Err(SearchFault::Memory),
             }
         }
     }

@@ -29,13 +29,6 @@ keep-requires-clause-space g c =
     let problem = c.args.problem.now in
     omega (arith, ap length c.path-in-Visit-3.ensures, node_at-rank (meaning.ranked problem) c.args.stack.now.path (meaning.root problem) c.args.node c.requires.root c.requires.task.found, meaning.root_rank problem c.requires.root, c.requires.space)
 
-pub returns-in-Err-open-clause-err : goal.returns-in-Err-open-clause-err
-returns-in-Err-open-clause-err g c = record {
-  note = visited c.args.stack.now.path c.in-Visit.worth c.in-Visit.read;
-  judges = (refl, rw c.path.ensures at c.in-Visit.ensures);
-  log_is = inr (rw c.path-in-Visit.ensures at c.in-Ok-note.ensures.ok, refl);
-}
-
 pub returns-clause-err : goal.returns-clause-err
 returns-clause-err g c = record {
   note = visited c.args.stack.now.path c.in-Visit.worth c.in-Visit.read;
@@ -43,13 +36,8 @@ returns-clause-err g c = record {
   log_is = inr (rw c.path-in-Visit.ensures at c.in-Ok-note.ensures.ok, refl);
 }
 
-pub returns-in-Err-open-clause-fits : goal.returns-in-Err-open-clause-fits
-returns-in-Err-open-clause-fits g c =
-    let tally = c.args.tally.now in
-    rw (c.keep.ensures.sum, c.note-in-Visit-2.ensures) ((g.T.Tally.monoid tally).join_fits c.args.hand.now.sum (g.T.Tally.of tally c.args.node _) c.requires.fits (g.T.Tally.of_fits tally c.args.node _))
-
-pub returns-in-Ok-open-2-clause-fits : goal.returns-in-Ok-open-2-clause-fits
-returns-in-Ok-open-2-clause-fits g c =
+pub returns-in-Ok-go_down-clause-fits : goal.returns-in-Ok-go_down-clause-fits
+returns-in-Ok-go_down-clause-fits g c =
     let tally = c.args.tally.now in
     rw (c.keep.ensures.sum, c.note-in-Visit-2.ensures) ((g.T.Tally.monoid tally).join_fits c.args.hand.now.sum (g.T.Tally.of tally c.args.node _) c.requires.fits (g.T.Tally.of_fits tally c.args.node _))
 
