@@ -2,10 +2,11 @@ ghost use Rattle.std.specs.Prelude.{◌≡◌, [], ◌∷◌, ◌++◌, length, 
 ghost use Rattle.std.specs.List.{AllByRecursion};
 ghost use Rattle.yew_laws.specs.SearchTree.{IsTask};
 ghost use Rattle.yew_stack.specs.Fan.{from, children_of, rank_of, IsBelowFive, fan-ranked, fan-bounded, fan-countable, fan-root_rank};
+ghost use Rattle.yew_stack.specs.Descents.{IsAtNode, StandsAt, turn_of};
 ghost use Rattle.yew_stack.specs.ToCome.{AllOpen};
 ghost use Rattle.yew_stack.specs.Turns.{GivesTask};
 
-use crate::{Chunk, GenStack, Turn};
+use crate::{Chunk, Descent, GenStack, Step, Turn};
 use std::alloc::Global;
 use std::test::Fail;
 use yew_laws::{Memory, Path, Problem, Task};
@@ -304,5 +305,115 @@ fn given_and_ended<P: Problem>(alloc: Global, problem: &P) -> Result<(u32, u32),
 #[test]
 fn whole_tree(rt: HostRuntime) -> Result<(), Fail> {
     assert_eq!(rt; given_and_ended(rt.alloc(), &Fan { refused: 0 })?, (15, 16));
+    Ok(())
+}
+
+/// Adds the level of the node at which a descent stands.
+fn entered<P: Problem>(
+    alloc: Global,
+    problem: &P,
+    node: P::Node,
+    descent: &mut Descent<P>,
+) -> Result<(), Memory>
+    requires root { P.sound problem.now (P.root problem.now) }
+    requires task { IsTask P.Problem problem.now descent.old.path node }
+    requires stands { IsAtNode descent.old }
+    requires levels_open { AllOpen P.Problem problem.now descent.old.levels }
+    ensures { AllOpen P.Problem problem.now descent.new.levels }
+{
+    let kids = problem.open(alloc, node)?;
+    descent.open(kids)
+}
+
+/// A descent whose one level is that of the root.
+fn descended<P: Problem>(alloc: Global, problem: &P) -> Result<Descent<P>, Memory>
+    requires { P.sound problem.now (P.root problem.now) }
+    ensures { IfOk result (λ descent. AllOpen P.Problem problem.now descent.levels) }
+{
+    let mut descent = Descent::new(alloc, Path::empty(alloc, 0)?);
+    entered(alloc, problem, problem.root(alloc)?, &mut descent)?;
+    Ok(descent)
+}
+
+/// The next step.
+fn stepped<P: Problem>(
+    alloc: Global,
+    problem: &P,
+    descent: &mut Descent<P>,
+) -> Result<Step<P::Node>, Memory>
+    requires root { P.sound problem.now (P.root problem.now) }
+    requires levels_open { AllOpen P.Problem problem.now descent.old.levels }
+    ensures levels_open { AllOpen P.Problem problem.now descent.new.levels }
+    ensures task { IfOk result (λ step. GivesTask P.Problem problem.now (turn_of descent.new.path step)) }
+    ensures stands { IfOk result (λ step. StandsAt step descent.new) }
+{
+    descent.next(alloc, problem)
+}
+
+/// Moves the lowest nodes of a descent to the end of a list of tasks.
+fn split_off<P: Problem>(
+    alloc: Global,
+    problem: &P,
+    chunk: Chunk,
+    descent: &mut Descent<P>,
+    into: &mut Vec<Task<P>>,
+) -> Result<(), Memory>
+    requires root { P.sound problem.now (P.root problem.now) }
+    requires levels_open { AllOpen P.Problem problem.now descent.old.levels }
+    ensures { AllOpen P.Problem problem.now descent.new.levels }
+{
+    descent.split_lowest(alloc, problem, chunk, into)
+}
+
+/// How many nodes below the root are given and how many levels end.
+fn steps_and_ends<P: Problem>(alloc: Global, problem: &P) -> Result<(u32, u32), Memory>
+    requires { P.sound problem.now (P.root problem.now) }
+{
+    let mut descent = descended(alloc, problem)?;
+    let (mut given, mut ended) = (0u32, 0u32);
+    for _step in 0..100u32 {
+        match stepped(alloc, problem, &mut descent)? {
+            Step::Node(node) => {
+                given = given.saturating_add(1);
+                entered(alloc, problem, node, &mut descent)?;
+            }
+            Step::Ended => ended = ended.saturating_add(1),
+            Step::Empty => break,
+        }
+    }
+    Ok((given, ended))
+}
+
+#[test]
+fn whole_tree_along_one_path(rt: HostRuntime) -> Result<(), Fail> {
+    assert_eq!(rt; steps_and_ends(rt.alloc(), &Fan { refused: 0 })?, (15, 16));
+    Ok(())
+}
+
+#[test]
+fn descent_keeps_its_path(rt: HostRuntime) -> Result<(), Fail> {
+    let alloc = rt.alloc();
+    let fan = Fan { refused: 0 };
+    let mut descent = descended(alloc, &fan)?;
+    if let Step::Node(node) = stepped(alloc, &fan, &mut descent)? {
+        assert_eq!(rt; node, 1);
+        assert_eq!(rt; descent.path().numbers(), [0].as_slice());
+        entered(alloc, &fan, node, &mut descent)?;
+    }
+    let mut tasks = Vec::new(alloc);
+    split_off(alloc, &fan, Chunk::One, &mut descent, &mut tasks)?;
+    assert!(rt; tasks_are(&tasks, &[(&[1], 2)]));
+    assert!(rt; matches!(stepped(alloc, &fan, &mut descent), Ok(Step::Node(2))));
+    assert_eq!(rt; descent.path().numbers(), [0, 0].as_slice());
+    assert!(rt; matches!(stepped(alloc, &fan, &mut descent), Ok(Step::Node(3))));
+    assert_eq!(rt; descent.path().numbers(), [0, 1].as_slice());
+    split_off(alloc, &fan, Chunk::All, &mut descent, &mut tasks)?;
+    split_off(alloc, &fan, Chunk::All, &mut descent, &mut tasks)?;
+    assert!(rt; tasks_are(&tasks, &[(&[1], 2), (&[2], 3), (&[3], 4), (&[0, 2], 4)]));
+    assert!(rt; matches!(stepped(alloc, &fan, &mut descent), Ok(Step::Ended)));
+    assert_eq!(rt; descent.path().numbers(), [0].as_slice());
+    assert!(rt; matches!(stepped(alloc, &fan, &mut descent), Ok(Step::Ended)));
+    assert!(rt; descent.path().numbers().is_empty());
+    assert!(rt; matches!(stepped(alloc, &fan, &mut descent), Ok(Step::Empty)));
     Ok(())
 }
