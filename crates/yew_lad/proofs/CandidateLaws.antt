@@ -39,10 +39,8 @@ mask-word n count is l =
     ap (λ k. 1 * 2 ^ k % 2 ^ 64 - 1) is ∙ ap (λ k. k - 1) (mod-eq_of_lt low ∙ omega arith)
 
 -- the bits of the one word of a row of places
-pub places-row : (rows : ℕ) (test : ℕ → ℕ → Bool) (table : BitTable) → HasTest rows 1 test table → (place : ℕ) → place < rows → (word : ℕ) → AreBits word (λ k. in_row table place (64 * 0 + k)) → AreBits word (test place)
-places-row rows test table has place l word bits k small =
-    let here : 64 * 0 + k ≡ k = omega arith in
-    bits k small ∙ has.bits place (64 * 0 + k) l (omega arith) ∙ ap (test place) here
+pub places-only : (rows : ℕ) (test : ℕ → ℕ → Bool) (table : BitTable) → HasTest rows 1 test table → (place : ℕ) → place < rows → (word : ℕ) → AreBits word (in_row table place) → AreBits word (test place)
+places-only rows test table has place l word bits k small = bits k small ∙ has.bits place k l (omega arith)
 
 -- ---- all places that pass
 
@@ -153,37 +151,75 @@ module _ (pair : GraphPair) (images : List ℕ) (sound : IsNode pair images) (pl
     abbrev arcs_out : ℕ → Bool
     arcs_out q = is_arc pair.pattern (vertex_at pair place) (vertex_at pair q)
 
-    -- the bit of a target vertex that has room, is unused and keeps the arcs of both kinds
-    pub candidate-is : (room free kept all : Bool) (from to : ℕ) (successors predecessors : BitTable)
+    abbrev own_room : Bool
+    own_room = has_room (profile_of pair.pattern (vertex_at pair place)) (profile_of pair.target t)
+
+    -- the bit of a target vertex that has room, is unused and keeps the arcs of each kind
+    pub candidate-is : (room free joined kept all : Bool) (both from to : ℕ) (joins successors predecessors : BitTable)
         → free ≡ (room && not (contains images t))
-        → room ≡ (nat_lt t (vertex_count pair.target) && has_room (profile_of pair.pattern (vertex_at pair place)) (profile_of pair.target t))
-        → kept ≡ (free && list_all (λ q. in_row successors (slice_index images q) t) (places_in from))
+        → room ≡ (nat_lt t (vertex_count pair.target) && own_room)
+        → joined ≡ (free && list_all (λ q. in_row joins (slice_index images q) t) (places_in both))
+        → kept ≡ (joined && list_all (λ q. in_row successors (slice_index images q) t) (places_in from))
         → all ≡ (kept && list_all (λ q. in_row predecessors (slice_index images q) t) (places_in to))
-        → ((q : ℕ) → q < 64 → (bit_at from q == 1) ≡ (nat_lt q count && arcs_in q))
-        → ((q : ℕ) → q < 64 → (bit_at to q == 1) ≡ (nat_lt q count && arcs_out q))
+        → ((q : ℕ) → q < 64 → (bit_at both q == 1) ≡ (nat_lt q count && (arcs_in q && arcs_out q)))
+        → ((q : ℕ) → q < 64 → (bit_at from q == 1) ≡ (nat_lt q count && (arcs_in q && not (arcs_out q))))
+        → ((q : ℕ) → q < 64 → (bit_at to q == 1) ≡ (nat_lt q count && (arcs_out q && not (arcs_in q))))
+        → ((q : ℕ) → q < count → t < vertex_count pair.target → in_row joins (slice_index images q) t ≡ (is_arc pair.target (slice_index images q) t && is_arc pair.target t (slice_index images q)))
         → ((q : ℕ) → q < count → t < vertex_count pair.target → in_row successors (slice_index images q) t ≡ is_arc pair.target (slice_index images q) t)
         → ((q : ℕ) → q < count → t < vertex_count pair.target → in_row predecessors (slice_index images q) t ≡ is_arc pair.target t (slice_index images q))
         → all ≡ (nat_lt t (vertex_count pair.target) && is_candidate pair images (vertex_at pair place) t)
     unfolding is_candidate
-    candidate-is room free kept all from to successors predecessors free_is room_is kept_is all_is from_are to_are succ pred =
+    candidate-is room free joined kept all both from to joins successors predecessors free_is room_is joined_is kept_is all_is both_are from_are to_are join succ pred =
+        let few : count ≤ 64 = let l = count-small in omega arith in
+        let unused = not (contains images t) in
+        let s : ℕ → Bool = λ q. is_arc pair.target (slice_index images q) t in
+        let p : ℕ → Bool = λ q. is_arc pair.target t (slice_index images q) in
+        let bits_both = list_all (λ q. in_row joins (slice_index images q) t) (places_in both) in
+        let bits_from = list_all (λ q. in_row successors (slice_index images q) t) (places_in from) in
+        let bits_to = list_all (λ q. in_row predecessors (slice_index images q) t) (places_in to) in
+        let in_both : ℕ → Bool = λ q. not (arcs_in q && arcs_out q) || (s q && p q) in
+        let in_from : ℕ → Bool = λ q. not (arcs_in q && not (arcs_out q)) || s q in
+        let in_to : ℕ → Bool = λ q. not (arcs_out q && not (arcs_in q)) || p q in
+        let whole : all ≡ (((((nat_lt t (vertex_count pair.target) && own_room) && unused) && bits_both) && bits_from) && bits_to) =
+        all_is
+        ∙ ap (λ x. x && bits_to) kept_is
+        ∙ ap (λ x. (x && bits_from) && bits_to) joined_is
+        ∙ ap (λ x. ((x && bits_both) && bits_from) && bits_to) free_is
+        ∙ ap (λ x. (((x && unused) && bits_both) && bits_from) && bits_to) room_is in
         elim (cases_lt t (vertex_count pair.target)) [
           | inl less ↦
-              all_is ∙ ap₂ (λ a b. a && b) (kept_is ∙ ap₂ (λ a b. a && b) (free_is ∙ ap (λ a. a && not (contains images t)) (room_is ∙ ap (λ a. a && has_room (profile_of pair.pattern (vertex_at pair place)) (profile_of pair.target t)) (lt-ltb t (vertex_count pair.target) less)))
-              (kept-places from count arcs_in (λ q. in_row successors (slice_index images q) t) (λ q. is_arc pair.target (slice_index images q) t) few from_are (λ q l. succ q l less)))
-              (kept-places to count arcs_out (λ q. in_row predecessors (slice_index images q) t) (λ q. is_arc pair.target t (slice_index images q)) few to_are (λ q l. pred q l less))
-              ∙ turn (has_room (profile_of pair.pattern (vertex_at pair place)) (profile_of pair.target t)) (not (contains images t)) (list_all (λ q. not (arcs_in q) || is_arc pair.target (slice_index images q) t) (range_with_len 0 count)) (list_all (λ q. not (arcs_out q) || is_arc pair.target t (slice_index images q)) (range_with_len 0 count))
-              ∙ ap (λ b. true && ((not (contains images t) && has_room (profile_of pair.pattern (vertex_at pair place)) (profile_of pair.target t)) && b)) (sym (all-both (λ q. not (arcs_in q) || is_arc pair.target (slice_index images q) t) (λ q. not (arcs_out q) || is_arc pair.target t (slice_index images q)) 0 count))
-              ∙ ap (λ a. a && ((not (contains images t) && has_room (profile_of pair.pattern (vertex_at pair place)) (profile_of pair.target t)) && keeps_all pair images (vertex_at pair place) t)) (sym (lt-ltb t (vertex_count pair.target) less))
+              let here = lt-ltb t (vertex_count pair.target) less in
+              whole
+              ∙ ap (λ x. ((((x && own_room) && unused) && bits_both) && bits_from) && bits_to) here
+              ∙ ap (λ x. (((((true && own_room) && unused) && x) && bits_from) && bits_to))
+              (kept-places both count (λ q. arcs_in q && arcs_out q) (λ q. in_row joins (slice_index images q) t) (λ q. s q && p q) few both_are (λ q l. join q l less))
+              ∙ ap₂ (λ x y. ((((true && own_room) && unused) && list_all in_both (range_with_len 0 count)) && x) && y)
+              (kept-places from count (λ q. arcs_in q && not (arcs_out q)) (λ q. in_row successors (slice_index images q) t) s few from_are (λ q l. succ q l less))
+              (kept-places to count (λ q. arcs_out q && not (arcs_in q)) (λ q. in_row predecessors (slice_index images q) t) p few to_are (λ q l. pred q l less))
+              ∙ turn own_room unused (list_all in_both (range_with_len 0 count)) (list_all in_from (range_with_len 0 count)) (list_all in_to (range_with_len 0 count))
+              ∙ ap (λ b. true && ((unused && own_room) && b))
+              (ap (λ b. b && list_all in_to (range_with_len 0 count)) (sym (all-both in_both in_from 0 count))
+              ∙ sym (all-both (λ q. in_both q && in_from q) in_to 0 count)
+              ∙ all-agree (λ q. (in_both q && in_from q) && in_to q) (λ q. (not (arcs_in q) || s q) && (not (arcs_out q) || p q)) 0 count (λ q a b. kinds (arcs_in q) (arcs_out q) (s q) (p q)))
+              ∙ ap (λ a. a && ((unused && own_room) && keeps_all pair images (vertex_at pair place) t)) (sym here)
           | inr more ↦
-              all_is ∙ ap (λ a. a && list_all (λ q. in_row predecessors (slice_index images q) t) (places_in to)) (kept_is ∙ ap (λ a. a && list_all (λ q. in_row successors (slice_index images q) t) (places_in from)) (free_is ∙ ap (λ a. a && not (contains images t)) (room_is ∙ ap (λ a. a && has_room (profile_of pair.pattern (vertex_at pair place)) (profile_of pair.target t)) (le-ltb t (vertex_count pair.target) more))))
-              ∙ sym (ap (λ a. a && ((not (contains images t) && has_room (profile_of pair.pattern (vertex_at pair place)) (profile_of pair.target t)) && keeps_all pair images (vertex_at pair place) t)) (le-ltb t (vertex_count pair.target) more))
+              let past = le-ltb t (vertex_count pair.target) more in
+              whole
+              ∙ ap (λ x. ((((x && own_room) && unused) && bits_both) && bits_from) && bits_to) past
+              ∙ sym (ap (λ a. a && ((unused && own_room) && keeps_all pair images (vertex_at pair place) t)) past)
         ]
       where
-        few : count ≤ 64
-        few = let l = count-small in omega arith
+        turn : (a b c d e : Bool) → (((((true && a) && b) && c) && d) && e) ≡ (true && ((b && a) && ((c && d) && e)))
+        turn a b c d e = grind arith
 
-        turn : (a b c d : Bool) → ((((true && a) && b) && c) && d) ≡ (true && ((b && a) && (c && d)))
-        turn a b c d = grind arith
+        kinds : (a b s p : Bool) → (((not (a && b) || (s && p)) && (not (a && not b) || s)) && (not (b && not a) || p)) ≡ ((not a || s) && (not b || p))
+        kinds true true s p = both_ways (s && p)
+          where
+            both_ways : (c : Bool) → ((c && true) && true) ≡ c
+            both_ways c = grind arith
+        kinds true false s p = refl
+        kinds false true s p = refl
+        kinds false false s p = refl
 
 -- what stands before a limit that is met falls away
 pub met-limit : (t n : ℕ) (b : Bool) → t < n → (nat_lt t n && b) ≡ b

@@ -42,7 +42,8 @@ pub none-any : (test : ℕ → Bool) (low n : ℕ) → ((t : ℕ) → low ≤ t 
 none-any test low zero h = refl
 none-any test low (suc n) h = ap₂ (λ a b. a || b) (h low (omega arith) (omega arith)) (none-any test (low + 1) n (λ t a b. h t (omega arith) (omega arith)))
 
-no_bits : (t : ℕ) → has_bit (replicate 16 0) t ≡ false
+-- no word, no bit
+pub no_bits : (t : ℕ) → has_bit (replicate 16 0) t ≡ false
 unfolding has_bit
 no_bits t = ap (λ w. bit_at w (t % 64) == 1) (zeros 16 (t / 64)) ∙ ap (λ b. b == 1) (bit_at-zero (t % 64))
   where
@@ -111,6 +112,13 @@ module _ (pair : GraphPair) (images : List ℕ) where
               ∙ sym (ap₂ (λ a b. a && (b && is_candidate pair images v t)) (lt-ltb t 1024 small) (le-ltb t m (omega arith)))
         ];
   }
+
+  -- past the words that the target has no word has a candidate
+  pub words-past : (words : List ℕ) → AreCandidateWords pair images 1024 words → (t : ℕ) → 64 * ((m + 63) / 64) ≤ t → t < 1024 → has_bit words t ≡ false
+  words-past words are t from below =
+      are.each t below
+      ∙ ap (λ b. nat_lt t 1024 && (b && is_candidate pair images v t)) (le-ltb t m (omega arith))
+      ∙ ap (λ b. b && false) (lt-ltb t 1024 below)
 
   -- the children send the next vertex to its candidates
   pub children-next : IsNode pair images → length images < vertex_count pair.pattern → (words : List ℕ) → AreCandidateWords pair images 1024 words → all_with images words ≡ children_of pair images

@@ -5,11 +5,11 @@ use Rattle.std.proofs.lemmas.Bool.{cases_lt, le-ltb}
 use Rattle.std.proofs.lemmas.List.FromFn.{get_or-map-range_with_len, length-map-range_with_len}
 use Rattle.yew_lad.specs.declared.profiles.Profile.{Profile}
 use Rattle.yew_lad.specs.Bits.{BitTable}
-use Rattle.yew_lad.specs.Digraphs.{GraphPair, IsWithinLimits, vertex_count, is_arc}
+use Rattle.yew_lad.specs.Digraphs.{GraphPair, IsWithinLimits, vertex_count}
 use Rattle.yew_lad.specs.Nodes.{vertex_at, has_room}
 use Rattle.yew_lad.specs.OrderLaws.{length-searched_profiles}
 use Rattle.yew_lad.specs.SearchedOrder.{profile_of, profiles_of, searched_profiles}
-use Rattle.yew_lad.specs.Tables.{HasTest, blank, vertex_in, has_room_in, is_source, is_aim, words_for}
+use Rattle.yew_lad.specs.Tables.{HasTest, blank, vertex_in, has_room_in, are_joined, is_one_way, is_source, is_aim, is_partner, words_for}
 use Rattle.yew_lad.proofs.Orders.{order-vertices, vertex_in-order, profile-at}
 
 -- a test that is the same of a table
@@ -45,15 +45,20 @@ module _ (pair : GraphPair) (limits : IsWithinLimits pair) (order : List Profile
   own-is : (place : ℕ) → place < length order → slice_index_or order place blank ≡ profile_of pair.pattern (vertex_at pair place)
   own-is place l = ap (λ xs. slice_index_or xs place blank) order_is ∙ profile-at pair.pattern place (omega (arith, size, l))
 
-  pub sources-of : (table : BitTable) → HasTest (length order) 1 (is_source pair.pattern order) table → HasTest (vertex_count pair.pattern) 1 (λ place earlier. nat_lt earlier place && is_arc pair.pattern (vertex_at pair earlier) (vertex_at pair place)) table
+  pub sources-of : (table : BitTable) → HasTest (length order) 1 (is_source pair.pattern order) table → HasTest (vertex_count pair.pattern) 1 (λ place earlier. nat_lt earlier place && is_one_way pair.pattern (vertex_at pair earlier) (vertex_at pair place)) table
   sources-of table has =
-      same-test (length order) (vertex_count pair.pattern) 1 (is_source pair.pattern order) (λ place earlier. nat_lt earlier place && is_arc pair.pattern (vertex_at pair earlier) (vertex_at pair place)) table size
-      (λ a b l. ap₂ (λ u v. nat_lt b a && is_arc pair.pattern u v) (vertex-is b) (vertex-is a)) has
+      same-test (length order) (vertex_count pair.pattern) 1 (is_source pair.pattern order) (λ place earlier. nat_lt earlier place && is_one_way pair.pattern (vertex_at pair earlier) (vertex_at pair place)) table size
+      (λ a b l. ap₂ (λ u v. nat_lt b a && is_one_way pair.pattern u v) (vertex-is b) (vertex-is a)) has
 
-  pub aims-of : (table : BitTable) → HasTest (length order) 1 (is_aim pair.pattern order) table → HasTest (vertex_count pair.pattern) 1 (λ place earlier. nat_lt earlier place && is_arc pair.pattern (vertex_at pair place) (vertex_at pair earlier)) table
+  pub aims-of : (table : BitTable) → HasTest (length order) 1 (is_aim pair.pattern order) table → HasTest (vertex_count pair.pattern) 1 (λ place earlier. nat_lt earlier place && is_one_way pair.pattern (vertex_at pair place) (vertex_at pair earlier)) table
   aims-of table has =
-      same-test (length order) (vertex_count pair.pattern) 1 (is_aim pair.pattern order) (λ place earlier. nat_lt earlier place && is_arc pair.pattern (vertex_at pair place) (vertex_at pair earlier)) table size
-      (λ a b l. ap₂ (λ u v. nat_lt b a && is_arc pair.pattern u v) (vertex-is a) (vertex-is b)) has
+      same-test (length order) (vertex_count pair.pattern) 1 (is_aim pair.pattern order) (λ place earlier. nat_lt earlier place && is_one_way pair.pattern (vertex_at pair place) (vertex_at pair earlier)) table size
+      (λ a b l. ap₂ (λ u v. nat_lt b a && is_one_way pair.pattern u v) (vertex-is a) (vertex-is b)) has
+
+  pub partners-of : (table : BitTable) → HasTest (length order) 1 (is_partner pair.pattern order) table → HasTest (vertex_count pair.pattern) 1 (λ place earlier. nat_lt earlier place && are_joined pair.pattern (vertex_at pair earlier) (vertex_at pair place)) table
+  partners-of table has =
+      same-test (length order) (vertex_count pair.pattern) 1 (is_partner pair.pattern order) (λ place earlier. nat_lt earlier place && are_joined pair.pattern (vertex_at pair earlier) (vertex_at pair place)) table size
+      (λ a b l. ap₂ (λ u v. nat_lt b a && are_joined pair.pattern u v) (vertex-is b) (vertex-is a)) has
 
   module _ (images : List Profile) (images_are : images ≡ profiles_of pair.target) where
     images-size : length images ≡ vertex_count pair.target

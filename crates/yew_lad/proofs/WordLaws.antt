@@ -1,15 +1,17 @@
 -- Sets of vertices as lists of words.
-use Rattle.std.proofs.Common.{◌≡◌, ◌≢◌, ℕ, ◌+◌, ◌*◌, ◌/◌, ◌%◌, ◌^◌, ◌<◌, Bool, true, false, not, ◌&&◌, ◌||◌, ◌==◌, List, [], ◌∷◌, length, set, slice_index, replicate, bit_and, map, refl, ap, sym, ◌∙◌, inl, inr, arith, get_or-set_same, get_or-set_other}
+use Rattle.std.proofs.Common.{◌≡◌, ◌≢◌, ℕ, ◌+◌, ◌*◌, ◌/◌, ◌%◌, ◌^◌, ◌<◌, ◌≤◌, Bool, true, false, not, ◌&&◌, ◌||◌, ◌==◌, List, [], ◌∷◌, length, set, take, subst, slice_index, replicate, bit_and, map, refl, ap, sym, ◌∙◌, inl, inr, arith, get_or-set_same, get_or-set_other}
 use Rattle.std.specs.Int.{bit_at, bit_not, trailing_zeros, w64}
 use Rattle.std.proofs.lemmas.Bool.{cases_eq}
 use Rattle.std.proofs.lemmas.Bool.Decides.{nat_tests}
-use Rattle.std.proofs.lemmas.List.{get_or-replicate}
+use Rattle.std.proofs.lemmas.List.{get_or-replicate, get_or-take, length-take, take_more}
+use Rattle.std.specs.List.{AllByRecursion}
 use Rattle.std.proofs.lemmas.Nat.Bits.{bit_at-zero, bit_at_ones, bit_at-trailing_zeros, bit_at_clear_same, bit_at_clear_other}
 use Rattle.yew_laws.specs.Sets.{contains}
 use Rattle.yew_lad.specs.Bits.{has_bit, AreBits}
 use Rattle.yew_lad.specs.Lists.{contains-push}
 use Rattle.yew_lad.specs.Nodes.{with_image}
 use Rattle.yew_lad.specs.NodeWords.{AreUnused, IsLowest, all_with}
+use Rattle.yew_lad.proofs.Orders.{each-at}
 use Rattle.yew_lad.proofs.Ranges.{filter-none, filter-pop}
 
 -- the bits of a word of a set
@@ -78,6 +80,16 @@ unused-without images words v size small unused = record {
     both : (a b : Bool) → (not a && not b) ≡ not (a || b)
     both a b = grind arith
 
+-- one image more is used
+pub unused-more : (images words : List ℕ) (count place : ℕ) → place < count → count ≤ length images → length words ≡ 16 → AllByRecursion (λ t. t < 1024) (take count images) → AreUnused (take place images) words
+    → AreUnused (take (place + 1) images) (set words (slice_index images place / 64) (bit_and (slice_index words (slice_index images place / 64)) (bit_not w64 (1 * 2 ^ (slice_index images place % 64) % 2 ^ 64))))
+unused-more images words count place l fits size small unused =
+    let t = slice_index images place in
+    let taken = length-take count images in
+    let below : t < 1024 = subst (λ n. n < 1024) (get_or-take count images place 0 l) (each-at (λ n. n < 1024) (take count images) place 0 small (omega (arith, taken, fits, l))) in
+    subst (λ xs. AreUnused xs (set words (t / 64) (bit_and (slice_index words (t / 64)) (bit_not w64 (1 * 2 ^ (t % 64) % 2 ^ 64))))) (sym (take_more images place 0 (omega arith)))
+    (unused-without (take place images) words t size below unused)
+
 -- no member is in a word that is 0
 pub none_more : (words : List ℕ) (number : ℕ) → ((v : ℕ) → v < 64 * number → has_bit words v ≡ false) → slice_index words number ≡ 0 → (v : ℕ) → v < 64 * (number + 1) → has_bit words v ≡ false
 none_more words number before empty v l =
@@ -141,3 +153,7 @@ module _ (images words : List ℕ) (v : ℕ) (size : length words ≡ 16) (lowes
   pub none_earlier : (u : ℕ) → u < 64 * (v / 64) → has_bit (without_bit words v word_within) u ≡ false
   none_earlier u l =
       bit-cleared words v word_within u ∙ ap (λ b. b && not (v == u)) (lowest.least u (omega arith))
+
+  -- what was no member is none afterwards
+  pub none_left : (u : ℕ) → has_bit words u ≡ false → has_bit (without_bit words v word_within) u ≡ false
+  none_left u e = bit-cleared words v word_within u ∙ ap (λ b. b && not (v == u)) e

@@ -1,5 +1,5 @@
 -- What a problem keeps beside its graphs: tables of bits, each a test of two numbers.
-use Rattle.std.specs.Prelude.{◌≡◌, ℕ, ◌+◌, ◌*◌, ◌/◌, ◌<◌, Bool, false, ◌&&◌, ◌||◌, ◌==◌, List, length, slice_index_or, nat_lt}
+use Rattle.std.specs.Prelude.{◌≡◌, ℕ, ◌+◌, ◌*◌, ◌/◌, ◌<◌, Bool, false, not, ◌&&◌, ◌||◌, ◌==◌, List, length, slice_index_or, nat_lt}
 use Rattle.yew_lad.specs.declared.profiles.Profile.{Profile}
 use Rattle.yew_lad.specs.Bits.{BitTable, in_row}
 use Rattle.yew_lad.specs.Digraphs.{Digraph, GraphPair, IsWithinLimits, vertex_count, is_arc}
@@ -34,26 +34,44 @@ has_room_in order images place t = nat_lt t (length images) && has_room (slice_i
 abbrev pub is_arc_back : Digraph → ℕ → ℕ → Bool
 is_arc_back graph v t = nat_lt t (vertex_count graph) && is_arc graph t v
 
--- there is an arc from an earlier place of an order, and one to an earlier place
+-- there are arcs from u to v and back
+abbrev pub are_joined : Digraph → ℕ → ℕ → Bool
+are_joined graph u v = is_arc graph u v && is_arc graph v u
+
+-- there is an arc from u to v, and none back
+abbrev pub is_one_way : Digraph → ℕ → ℕ → Bool
+is_one_way graph u v = is_arc graph u v && not (is_arc graph v u)
+
+-- there are arcs from v to t and back
+abbrev pub is_joined : Digraph → ℕ → ℕ → Bool
+is_joined graph v t = nat_lt t (vertex_count graph) && are_joined graph v t
+
+-- there is an arc from an earlier place of an order and none back, or one to an earlier place and none back, or there
+-- are both
 abbrev pub is_source : Digraph → List Profile → ℕ → ℕ → Bool
-is_source graph order place earlier = nat_lt earlier place && is_arc graph (vertex_in order earlier) (vertex_in order place)
+is_source graph order place earlier = nat_lt earlier place && is_one_way graph (vertex_in order earlier) (vertex_in order place)
 
 abbrev pub is_aim : Digraph → List Profile → ℕ → ℕ → Bool
-is_aim graph order place earlier = nat_lt earlier place && is_arc graph (vertex_in order place) (vertex_in order earlier)
+is_aim graph order place earlier = nat_lt earlier place && is_one_way graph (vertex_in order place) (vertex_in order earlier)
+
+abbrev pub is_partner : Digraph → List Profile → ℕ → ℕ → Bool
+is_partner graph order place earlier = nat_lt earlier place && are_joined graph (vertex_in order earlier) (vertex_in order place)
 
 -- how many words a set of n vertices has
 abbrev pub words_for : ℕ → ℕ
 words_for n = (n + 63) / 64
 
--- The tables of a pair of graphs: which target vertices have room for the pattern's, the target's arcs turned round, and
--- the earlier places with an arc to a place and from it.
-pub record AreTables (pair : GraphPair) (order : List Profile) (room_table predecessor_table source_table aim_table : BitTable) : Type 0 where
+-- The tables of a pair of graphs: which target vertices have room for the pattern's; the target's arcs turned round, and
+-- those that go both ways; and the earlier places with an arc to a place alone, from it alone, and with both.
+pub record AreTables (pair : GraphPair) (order : List Profile) (room_table predecessor_table joined_table source_table aim_table partner_table : BitTable) : Type 0 where
   pub limits : IsWithinLimits pair
   pub order_is : order ≡ searched_profiles pair.pattern
   pub rooms : HasTest (vertex_count pair.pattern) (words_for (vertex_count pair.target)) (λ place t. nat_lt t (vertex_count pair.target) && has_room (profile_of pair.pattern (vertex_at pair place)) (profile_of pair.target t)) room_table
   pub predecessors : HasTest (vertex_count pair.target) (words_for (vertex_count pair.target)) (is_arc_back pair.target) predecessor_table
-  pub sources : HasTest (vertex_count pair.pattern) 1 (λ place earlier. nat_lt earlier place && is_arc pair.pattern (vertex_at pair earlier) (vertex_at pair place)) source_table
-  pub aims : HasTest (vertex_count pair.pattern) 1 (λ place earlier. nat_lt earlier place && is_arc pair.pattern (vertex_at pair place) (vertex_at pair earlier)) aim_table
+  pub joined : HasTest (vertex_count pair.target) (words_for (vertex_count pair.target)) (is_joined pair.target) joined_table
+  pub sources : HasTest (vertex_count pair.pattern) 1 (λ place earlier. nat_lt earlier place && is_one_way pair.pattern (vertex_at pair earlier) (vertex_at pair place)) source_table
+  pub aims : HasTest (vertex_count pair.pattern) 1 (λ place earlier. nat_lt earlier place && is_one_way pair.pattern (vertex_at pair place) (vertex_at pair earlier)) aim_table
+  pub partners : HasTest (vertex_count pair.pattern) 1 (λ place earlier. nat_lt earlier place && are_joined pair.pattern (vertex_at pair earlier) (vertex_at pair place)) partner_table
 
 -- the table has the arcs of a graph
 pub record HasArcs (graph : Digraph) (table : BitTable) : Type 0 where

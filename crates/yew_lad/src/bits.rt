@@ -38,7 +38,7 @@ impl BitTable {
     }
 
     /// How many rows there are.
-    #[inline]
+    #[inline(always)]
     pub fn rows(&self) -> usize
         ensures { result ≡ self.now.rows }
     {
@@ -46,7 +46,7 @@ impl BitTable {
     }
 
     /// How many words a row has.
-    #[inline]
+    #[inline(always)]
     pub fn width(&self) -> usize
         ensures value { result ≡ self.now.width }
         ensures small { result ≤ 16 }
@@ -55,7 +55,7 @@ impl BitTable {
     }
 
     /// Whether a bit is in a row.
-    #[inline]
+    #[inline(always)]
     pub fn has(&self, row: usize, bit: usize) -> bool
         requires row { row < self.now.rows }
         requires bit { bit < 64 * self.now.width }
@@ -85,12 +85,22 @@ impl BitTable {
     }
 
     /// A word of a row: its bits are those of the row from 64 times the word's number on.
-    #[inline]
+    #[inline(always)]
     pub fn word(&self, row: usize, number: usize) -> u64
         requires row { row < self.now.rows }
         requires number { number < self.now.width }
         ensures { AreBits result (λ k. in_row self.now row (64 * number + k)) }
     {
         self.words[row * self.width + number]
+    }
+
+    /// The word of a row that has one alone.
+    #[inline(always)]
+    pub fn only_word(&self, row: usize) -> u64
+        requires row { row < self.now.rows }
+        requires width { self.now.width ≡ 1 }
+        ensures { AreBits result (in_row self.now row) }
+    {
+        self.words[row]
     }
 }

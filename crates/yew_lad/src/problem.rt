@@ -39,30 +39,32 @@ impl Problem for Subgraph {
         Ok(MapNode::root())
     }
 
-    #[inline]
+    #[inline(always)]
     fn open(&self, _alloc: Global, node: MapNode) -> Result<MapKids, Memory> {
         let left = if node.count() < self.places() {
             self.next_candidates(&node)
         } else {
             [0; 16]
         };
-        Ok(MapKids::new(node, left))
+        Ok(MapKids::new(node, left, self.width()))
     }
 
-    #[inline]
+    #[inline(always)]
     fn next(&self, _alloc: Global, kids: &mut MapKids) -> Result<Option<MapNode>, Memory> {
         Ok(kids.take())
     }
 
-    #[inline]
+    #[inline(always)]
     fn worth(&self, node: &MapNode) -> u64 {
         if node.count() == self.places() { 1 } else { 0 }
     }
 
-    #[inline]
+    #[inline(always)]
     fn bound(&self, node: &MapNode) -> u64 {
+        let mut unused = [u64::MAX; 16];
+        node.take_from(&mut unused);
         for place in node.count()..self.places() {
-            if !self.has_candidate(node, place) {
+            if !self.has_candidate(node, &unused, place) {
                 return 0;
             }
         }

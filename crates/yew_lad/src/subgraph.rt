@@ -7,6 +7,7 @@ ghost use Rattle.yew_lad.specs.Bits.{AreBits, in_row};
 ghost use Rattle.yew_lad.specs.Candidates.{ArePlaces, places_in, AreCandidateWords};
 ghost use Rattle.yew_lad.specs.Digraphs.{GraphPair, vertex_count};
 ghost use Rattle.yew_lad.specs.Nodes.{vertex_at, is_candidate, has_candidate, root_of, IsNode};
+ghost use Rattle.yew_lad.specs.NodeWords.{AreUnused};
 ghost use Rattle.yew_lad.specs.Tables.{words_for};
 
 use crate::bits::BitTable;
@@ -14,7 +15,7 @@ use crate::graph::Graph;
 use crate::nodes::MapNode;
 use crate::order::order_of;
 use crate::profiles::{Profile, profiles};
-use crate::tables::{aims, predecessors, rooms, sources};
+use crate::tables::{aims, joined, partners, predecessors, rooms, sources};
 use std::alloc::Global;
 use std::marker::Model;
 use yew_laws::Memory;
@@ -30,10 +31,14 @@ pub struct Subgraph {
     rooms: BitTable,
     /// For each target vertex, its predecessors.
     predecessors: BitTable,
-    /// For each place, the earlier places with an arc to its vertex.
+    /// For each target vertex, those with arcs from it and back.
+    joined: BitTable,
+    /// For each place, the earlier places with an arc to its vertex and none back.
     sources: BitTable,
-    /// For each place, the earlier places with an arc from its vertex.
+    /// For each place, the earlier places with an arc from its vertex and none back.
     aims: BitTable,
+    /// For each place, the earlier places with arcs to its vertex and back.
+    partners: BitTable,
 }
 
 impl Model for Subgraph {
@@ -44,7 +49,7 @@ impl Model for Subgraph {
 
     ghost view = { λ a. record { pattern = a.pattern; target = a.target } };
 
-    ghost invariant = { λ a. AreTables (record { pattern = a.pattern; target = a.target }) a.order.items a.rooms a.predecessors a.sources a.aims };
+    ghost invariant = { λ a. AreTables (record { pattern = a.pattern; target = a.target }) a.order.items a.rooms a.predecessors a.joined a.sources a.aims a.partners };
 }
 
 /// The problem of a pattern of at most 64 vertices and a target of at most 1,024.
@@ -59,21 +64,25 @@ pub fn pair(alloc: Global, pattern: Graph, target: Graph) -> Result<Subgraph, Me
     let images = profiles(alloc, &target)?;
     let rooms = rooms(alloc, order.as_slice(), images.as_slice(), target.width())?;
     let predecessors = predecessors(alloc, &target)?;
+    let joined = joined(alloc, &target)?;
     let sources = sources(alloc, &pattern, order.as_slice())?;
     let aims = aims(alloc, &pattern, order.as_slice())?;
+    let partners = partners(alloc, &pattern, order.as_slice())?;
     Ok(Subgraph {
         pattern,
         target,
         order,
         rooms,
         predecessors,
+        joined,
         sources,
         aims,
+        partners,
     })
 }
 
 /// The bits of a word that stand, for each place of a set, in the row of its image too.
-#[inline]
+#[inline(always)]
 fn keep_images(table: &BitTable, node: &MapNode, places: u64, number: usize, word: u64) -> u64
     requires number { number < table.now.width }
     requires places { ArePlaces table.now.rows node.now places }
@@ -94,12 +103,20 @@ fn keep_images(table: &BitTable, node: &MapNode, places: u64, number: usize, wor
 
 impl Subgraph {
     /// How many vertices the pattern has.
-    #[inline]
+    #[inline(always)]
     pub(crate) fn places(&self) -> usize
         ensures value { result ≡ vertex_count self.now.pattern }
         ensures small { result ≤ 64 }
     {
         self.order.len()
+    }
+
+    /// How many words a set of target vertices has.
+    #[inline(always)]
+    pub(crate) fn width(&self) -> usize
+        ensures { result ≡ words_for (vertex_count self.now.target) }
+    {
+        self.target.width()
     }
 
     /// The pattern's vertex at a place of the order.
@@ -111,32 +128,36 @@ impl Subgraph {
     }
 
     /// A word of the set of the candidates for the vertex at a place, which is not mapped yet.
-    #[inline]
-    fn candidates(&self, node: &MapNode, place: usize, number: usize) -> u64
+    #[inline(always)]
+    fn candidates(&self, node: &MapNode, unused: &[u64; 16], place: usize, number: usize) -> u64
         requires node { IsNode self.now node.now }
+        requires unused { AreUnused node.now unused.now }
         requires place { length node.now ≤ place }
         requires within { place < vertex_count self.now.pattern }
         requires number { number < words_for (vertex_count self.now.target) }
         ensures { AreBits result (λ k. nat_lt (64 * number + k) (vertex_count self.now.target) && is_candidate self.now node.now (vertex_at self.now place) (64 * number + k)) }
     {
         let mapped = (1 << node.count()) - 1;
-        let free = self.rooms.word(place, number) & node.unused(number);
-        let from = self.sources.word(place, 0) & mapped;
-        let kept = keep_images(self.target.arcs(), node, from, number, free);
-        let to = self.aims.word(place, 0) & mapped;
+        let free = self.rooms.word(place, number) & unused[number];
+        let both = self.partners.only_word(place) & mapped;
+        let joined = keep_images(&self.joined, node, both, number, free);
+        let from = self.sources.only_word(place) & mapped;
+        let kept = keep_images(self.target.arcs(), node, from, number, joined);
+        let to = self.aims.only_word(place) & mapped;
         keep_images(&self.predecessors, node, to, number, kept)
     }
 
     /// Whether the vertex at a place, which is not mapped yet, has a candidate.
-    #[inline]
-    pub(crate) fn has_candidate(&self, node: &MapNode, place: usize) -> bool
+    #[inline(always)]
+    pub(crate) fn has_candidate(&self, node: &MapNode, unused: &[u64; 16], place: usize) -> bool
         requires node { IsNode self.now node.now }
+        requires unused { AreUnused node.now unused.now }
         requires place { length node.now ≤ place }
         requires within { place < vertex_count self.now.pattern }
         ensures { result ≡ has_candidate self.now node.now (vertex_at self.now place) }
     {
-        for number in 0..self.target.width() {
-            if self.candidates(node, place, number) != 0 {
+        for number in 0..self.width() {
+            if self.candidates(node, unused, place, number) != 0 {
                 return true;
             }
         }
@@ -144,15 +165,17 @@ impl Subgraph {
     }
 
     /// The set of the candidates for the next vertex.
-    #[inline]
+    #[inline(always)]
     pub(crate) fn next_candidates(&self, node: &MapNode) -> [u64; 16]
         requires node { IsNode self.now node.now }
         requires within { length node.now < vertex_count self.now.pattern }
         ensures { AreCandidateWords self.now node.now 1024 result }
     {
+        let mut unused = [u64::MAX; 16];
+        node.take_from(&mut unused);
         let mut words = [0; 16];
-        for number in 0..self.target.width() {
-            words[number] = self.candidates(node, node.count(), number);
+        for number in 0..self.width() {
+            words[number] = self.candidates(node, &unused, node.count(), number);
         }
         words
     }

@@ -3,7 +3,7 @@
 ghost use Rattle.std.specs.Prelude.{◌≡◌, ◌+◌, ◌*◌, ◌/◌, ◌<◌, ◌≤◌, IfOk, length};
 ghost use Rattle.std.specs.List.{AllByRecursion};
 ghost use Rattle.yew_lad.specs.Digraphs.{vertex_count};
-ghost use Rattle.yew_lad.specs.Tables.{HasTest, has_room_in, is_arc_back, is_source, is_aim, words_for};
+ghost use Rattle.yew_lad.specs.Tables.{HasTest, has_room_in, is_arc_back, are_joined, is_one_way, is_joined, is_source, is_aim, is_partner, words_for};
 
 use crate::bits::BitTable;
 use crate::graph::Graph;
@@ -45,7 +45,38 @@ pub fn predecessors(alloc: Global, graph: &Graph) -> Result<BitTable, Memory>
     Ok(table)
 }
 
-/// For each place of an order the earlier places with an arc to its vertex.
+/// Whether there are arcs between two vertices both ways.
+fn are_joined(graph: &Graph, u: usize, v: usize) -> bool
+    requires u { u < vertex_count graph.now }
+    requires v { v < vertex_count graph.now }
+    ensures { result ≡ are_joined graph.now u v }
+{
+    graph.has_arc(u, v) && graph.has_arc(v, u)
+}
+
+/// Whether there is an arc from `u` to `v`, and none back.
+fn is_one_way(graph: &Graph, u: usize, v: usize) -> bool
+    requires u { u < vertex_count graph.now }
+    requires v { v < vertex_count graph.now }
+    ensures { result ≡ is_one_way graph.now u v }
+{
+    graph.has_arc(u, v) && !graph.has_arc(v, u)
+}
+
+/// For each vertex of a graph those with arcs from it and back.
+pub fn joined(alloc: Global, graph: &Graph) -> Result<BitTable, Memory>
+    ensures { IfOk result (HasTest (vertex_count graph.now) (words_for (vertex_count graph.now)) (is_joined graph.now)) }
+{
+    let mut table = BitTable::empty(alloc, graph.size(), graph.width())?;
+    for v in 0..graph.size() {
+        for t in 0..graph.size() {
+            table.put(v, t, are_joined(graph, v, t));
+        }
+    }
+    Ok(table)
+}
+
+/// For each place of an order the earlier places with an arc to its vertex and none back.
 pub fn sources(alloc: Global, graph: &Graph, order: &[Profile]) -> Result<BitTable, Memory>
     requires few { length order.now ≤ 64 }
     requires vertices { AllByRecursion (λ x. x.vertex < vertex_count graph.now) order.now }
@@ -55,17 +86,14 @@ pub fn sources(alloc: Global, graph: &Graph, order: &[Profile]) -> Result<BitTab
     for place in 0..order.len() {
         for earlier in 0..place {
             let u = order[earlier].vertex as usize;
-            table.put(
-                place,
-                earlier,
-                graph.has_arc(u, order[place].vertex as usize),
-            );
+            let v = order[place].vertex as usize;
+            table.put(place, earlier, is_one_way(graph, u, v));
         }
     }
     Ok(table)
 }
 
-/// For each place of an order the earlier places with an arc from its vertex.
+/// For each place of an order the earlier places with an arc from its vertex and none back.
 pub fn aims(alloc: Global, graph: &Graph, order: &[Profile]) -> Result<BitTable, Memory>
     requires few { length order.now ≤ 64 }
     requires vertices { AllByRecursion (λ x. x.vertex < vertex_count graph.now) order.now }
@@ -74,12 +102,26 @@ pub fn aims(alloc: Global, graph: &Graph, order: &[Profile]) -> Result<BitTable,
     let mut table = BitTable::empty(alloc, order.len(), 1)?;
     for place in 0..order.len() {
         for earlier in 0..place {
-            let v = order[earlier].vertex as usize;
-            table.put(
-                place,
-                earlier,
-                graph.has_arc(order[place].vertex as usize, v),
-            );
+            let u = order[earlier].vertex as usize;
+            let v = order[place].vertex as usize;
+            table.put(place, earlier, is_one_way(graph, v, u));
+        }
+    }
+    Ok(table)
+}
+
+/// For each place of an order the earlier places with arcs to its vertex and back.
+pub fn partners(alloc: Global, graph: &Graph, order: &[Profile]) -> Result<BitTable, Memory>
+    requires few { length order.now ≤ 64 }
+    requires vertices { AllByRecursion (λ x. x.vertex < vertex_count graph.now) order.now }
+    ensures { IfOk result (HasTest (length order.now) 1 (is_partner graph.now order.now)) }
+{
+    let mut table = BitTable::empty(alloc, order.len(), 1)?;
+    for place in 0..order.len() {
+        for earlier in 0..place {
+            let u = order[earlier].vertex as usize;
+            let v = order[place].vertex as usize;
+            table.put(place, earlier, are_joined(graph, u, v));
         }
     }
     Ok(table)

@@ -3,7 +3,7 @@ use Rattle.yew_lad.specs.declared.profiles.Profile.{Profile}
 use Rattle.yew_lad.specs.Digraphs.{Digraph, GraphPair, IsWithinLimits, vertex_count}
 use Rattle.yew_lad.specs.SearchedOrder.{all_placed, profiles_of, searched_profiles}
 use Rattle.yew_lad.specs.Tables.{HasTest, has_room_in}
-use Rattle.yew_lad.proofs.PairTables.{order-few, order-below, sources-of, aims-of, rooms-of, images-fit}
+use Rattle.yew_lad.proofs.PairTables.{order-few, order-below, sources-of, aims-of, partners-of, rooms-of, images-fit}
 use Rattle.yew_lad.proofs.subgraph.pair.Goals as goal
 
 abbrev pair_of : Digraph → Digraph → GraphPair
@@ -49,6 +49,16 @@ aims-requires-clause-vertices c =
     order-below (pair_of c.args.pattern c.args.target) (limits_of c.args.pattern c.args.target c.requires.pattern c.requires.target) c.as_slice-5.result.now
     (order-is c.args.pattern c.in_ok-own.own.items c.as_slice.result.now c.in_ok-order.order.items c.as_slice-5.result.now c.in_ok-own.ensures c.as_slice.ensures.value c.in_ok-order.ensures c.as_slice-5.ensures.value)
 
+pub partners-requires-clause-few : goal.partners-requires-clause-few
+partners-requires-clause-few c =
+    order-few (pair_of c.args.pattern c.args.target) (limits_of c.args.pattern c.args.target c.requires.pattern c.requires.target) c.as_slice-6.result.now
+    (order-is c.args.pattern c.in_ok-own.own.items c.as_slice.result.now c.in_ok-order.order.items c.as_slice-6.result.now c.in_ok-own.ensures c.as_slice.ensures.value c.in_ok-order.ensures c.as_slice-6.ensures.value)
+
+pub partners-requires-clause-vertices : goal.partners-requires-clause-vertices
+partners-requires-clause-vertices c =
+    order-below (pair_of c.args.pattern c.args.target) (limits_of c.args.pattern c.args.target c.requires.pattern c.requires.target) c.as_slice-6.result.now
+    (order-is c.args.pattern c.in_ok-own.own.items c.as_slice.result.now c.in_ok-order.order.items c.as_slice-6.result.now c.in_ok-own.ensures c.as_slice.ensures.value c.in_ok-order.ensures c.as_slice-6.ensures.value)
+
 pub invariant_of-result : goal.invariant_of-result
 invariant_of-result c =
     let pair = pair_of c.args.pattern c.args.target in
@@ -64,6 +74,8 @@ invariant_of-result c =
           rooms-of pair limits c.as_slice-2.result.now (is c.as_slice-2.result.now c.as_slice-2.ensures.value) c.as_slice-3.result.now (c.as_slice-3.ensures.value ∙ c.in_ok-images.ensures) c.in_ok-rooms.rooms
           (subst (λ (w : ℕ). HasTest (length c.as_slice-2.result.now) w (has_room_in c.as_slice-2.result.now c.as_slice-3.result.now) c.in_ok-rooms.rooms) c.width.ensures c.in_ok-rooms.ensures);
       predecessors = c.in_ok-predecessors.ensures;
+      joined = c.in_ok-joined.ensures;
       sources = sources-of pair limits c.as_slice-4.result.now (is c.as_slice-4.result.now c.as_slice-4.ensures.value) c.in_ok-sources.sources c.in_ok-sources.ensures;
       aims = aims-of pair limits c.as_slice-5.result.now (is c.as_slice-5.result.now c.as_slice-5.ensures.value) c.in_ok-aims.aims c.in_ok-aims.ensures;
+      partners = partners-of pair limits c.as_slice-6.result.now (is c.as_slice-6.result.now c.as_slice-6.ensures.value) c.in_ok-partners.partners c.in_ok-partners.ensures;
     }

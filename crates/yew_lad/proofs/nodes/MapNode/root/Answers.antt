@@ -1,6 +1,5 @@
 use Rattle.std.proofs.Common.{arith}
-use Rattle.yew_lad.proofs.WordLaws.{all_unused}
 use Rattle.yew_lad.proofs.nodes.MapNode.root.Goals as goal
 
 pub invariant_of-result : goal.invariant_of-result
-invariant_of-result c = (omega arith, all_unused)
+invariant_of-result c = (omega arith, tt)

@@ -3,7 +3,11 @@ use Rattle.std.specs.List.{list_all}
 use Rattle.yew_lad.specs.Nodes.{has_candidate}
 use Rattle.yew_lad.specs.SearchedOrder.{searched_order}
 use Rattle.yew_lad.proofs.NextLaws.{bound-step, bound-stop, bound-end}
+use Rattle.yew_lad.proofs.WordLaws.{all_unused}
 use Rattle.yew_lad.proofs.problem.SubgraphProblem.bound.Goals as goal
+
+pub take_from-requires : goal.take_from-requires
+take_from-requires c = all_unused
 
 pub loop-place-init : goal.loop-place-init
 loop-place-init c = ap (λ k. list_all (has_candidate c.args.self.now c.args.node.now) (drop k (searched_order c.args.self.now.pattern))) c.count-place.ensures.value

@@ -1,12 +1,11 @@
-use Rattle.std.proofs.Common.{sym, ap, arith}
-use Rattle.yew_lad.specs.Digraphs.{GraphPair, vertex_count}
+use Rattle.std.proofs.Common.{sym, arith}
+use Rattle.yew_lad.specs.Digraphs.{vertex_count}
 use Rattle.yew_lad.specs.Nodes.{vertex_at, is_candidate}
 use Rattle.yew_lad.proofs.NextLaws.{word-none, word-some, none-any}
 use Rattle.yew_lad.proofs.subgraph.Subgraph.has_candidate.Goals as goal
 
 pub candidates-requires-clause-number : goal.candidates-requires-clause-number
 candidates-requires-clause-number c =
-    let m = ap (λ (p : GraphPair). vertex_count p.target) c.self.view_is in
     let width = c.width-number-end.ensures in
     let l = c.loop-number-test.true in
     omega arith
@@ -19,7 +18,6 @@ pub returns : goal.returns
 returns c =
     sym (none-any (is_candidate c.args.self.now c.args.node.now (vertex_at c.args.self.now c.args.place)) 0 (vertex_count c.args.self.now.target)
     (λ t a b.
-    let m = ap (λ (p : GraphPair). vertex_count p.target) c.self.view_is in
     let width = c.width-number-end.ensures in
     let l = c.loop-number-test.false in
     c.loop-number.invariant t (omega arith) (omega arith)))
