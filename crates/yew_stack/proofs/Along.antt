@@ -1,5 +1,5 @@
 -- The levels along a path, one by one.
-use Rattle.std.proofs.Common.{◌≡◌, ℕ, zero, suc, ◌+◌, ◌≤◌, ◌<◌, List, [], ◌∷◌, ◌++◌, length, get_or, set, take, refl, ap, ap₂, sym, ◌∙◌, arith}
+use Rattle.std.proofs.Common.{◌≡◌, ℕ, zero, suc, ◌+◌, ◌≤◌, ◌<◌, List, [], ◌∷◌, ◌++◌, length, get_or, set, take, refl, ap, ap₂, ◌∙◌, arith}
 use Rattle.yew_stack.specs.Levels.{LevelValue, LevelView, level_of}
 use Rattle.yew_stack.specs.Descents.{RungValue, level_at, levels_along}
 

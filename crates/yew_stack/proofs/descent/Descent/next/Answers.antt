@@ -1,7 +1,7 @@
-use Rattle.std.proofs.Common.{◌≡◌, ℕ, ◌+◌, ◌-◌, ◌≤◌, ◌<◌, List, [], ◌∷◌, ◌++◌, set, map, take, length, sym, ap, ap₂, refl, ◌∙◌, arith, length-append}
+use Rattle.std.proofs.Common.{◌≡◌, ◌+◌, ◌-◌, [], ◌∷◌, ◌++◌, set, map, take, length, sym, ap, ap₂, refl, ◌∙◌, arith, length-append}
 use Rattle.std.specs.List.{AllByRecursion}
 use Rattle.std.proofs.lemmas.List.{length-set}
-use Rattle.yew_stack.specs.Levels.{LevelValue, level_of, levels, IsNumbered}
+use Rattle.yew_stack.specs.Levels.{level_of, IsNumbered}
 use Rattle.yew_stack.specs.Descents.{level_at, levels_along}
 use Rattle.yew_stack.proofs.Along.{along-length, along-same, along-get, along-set, along-take, take-front, take-twice, take-length, take-set, get_or-any}
 use Rattle.yew_stack.proofs.Places.{OnErr-always, place-All, place-same, map-last, map-set_last, last-place}

@@ -1,8 +1,8 @@
-use Rattle.std.proofs.Common.{◌≡◌, ℕ, ◌+◌, ◌≤◌, ◌<◌, List, [], length, set, take, map, refl, ap, sym, subst, inl, inr, ◌∙◌, arith}
+use Rattle.std.proofs.Common.{◌≡◌, ◌+◌, ◌≤◌, ◌<◌, [], length, set, take, map, refl, ap, sym, subst, inl, inr, ◌∙◌, arith}
 use Rattle.std.specs.List.{AllByRecursion}
 use Rattle.std.proofs.lemmas.List.{length-map, length-set, take_all}
 use Rattle.yew_stack.specs.Descents.{level_at, levels_along}
-use Rattle.yew_stack.specs.Levels.{LevelView, level_of, levels, IsNumbered, AreSpent}
+use Rattle.yew_stack.specs.Levels.{level_of, levels, IsNumbered, AreSpent}
 use Rattle.yew_stack.specs.Splits.{MovesLowest, IsChunk}
 use Rattle.yew_stack.proofs.Along.{along-length, along-get, along-set}
 use Rattle.yew_stack.proofs.Places.{OnErr-always, place-All, place-same, place-so_far}
