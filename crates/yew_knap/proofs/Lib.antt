@@ -3,6 +3,7 @@ mod Apart
 mod FileGrammar
 mod FileReader
 mod ItemSteps
+mod ItemWords
 mod Lines
 mod Nexts
 mod NumberSets

@@ -1,6 +1,6 @@
 //! Sets of items, one bit an item.
 
-ghost use Rattle.std.specs.Prelude.{◌≡◌, ◌<◌, ℕ};
+ghost use Rattle.std.specs.Prelude.{◌≡◌, ◌<◌, ℕ, bit_or, if◌then◌else◌};
 
 /// A set of items. An item is named by its place in the file, counted from 0 and below 256.
 #[derive(Clone, Copy, Debug, PartialEq, Eq)]
@@ -29,13 +29,31 @@ impl ItemSet {
     }
 
     /// The set with one more item.
+    ///
+    /// Each word is written as a value of its own: a store to one word of an array would be waited for where the whole array
+    /// is read next, as it is for each child.
     #[inline(always)]
     pub fn with(&self, item: u32) -> ItemSet
         requires { item < 256 }
         ensures { result ≡ with_item self.now item }
     {
-        let mut words = self.words;
-        words[(item / 64) as usize] |= 1 << (item % 64);
-        ItemSet { words }
+        let bit = 1 << (item % 64);
+        let place = item / 64;
+        ItemSet {
+            words: [
+                word_with(self.words[0], place == 0, bit),
+                word_with(self.words[1], place == 1, bit),
+                word_with(self.words[2], place == 2, bit),
+                word_with(self.words[3], place == 3, bit),
+            ],
+        }
     }
+}
+
+/// A word, with the bits of another one where they belong to it.
+#[inline(always)]
+fn word_with(word: u64, here: bool, bits: u64) -> u64
+    ensures { result ≡ (if here then bit_or word bits else word) }
+{
+    if here { word | bits } else { word }
 }
