@@ -1,6 +1,6 @@
 //! The path of a node: the number of a child at each step from the root.
 
-ghost use Rattle.std.specs.Prelude.{◌≡◌, ◌+◌, ◌<◌, ◌≤◌, ◌^◌, List, [], ◌∷◌, ◌++◌, length, take, IfOk, OnOk};
+ghost use Rattle.std.specs.Prelude.{◌≡◌, ◌+◌, ◌-◌, ◌<◌, ◌≤◌, ◌^◌, List, [], ◌∷◌, ◌++◌, length, take, IfOk, OnOk};
 
 use crate::memory::Memory;
 use std::alloc::Global;
@@ -118,6 +118,18 @@ impl Path {
         ensures space { self.new.space ≡ self.old.space }
     {
         self.steps.push(number).unwrap();
+    }
+
+    /// Puts `number` in place of the last step: this path becomes that of another child of the same node. The space stays,
+    /// and no memory is taken.
+    #[inline(always)]
+    pub fn set_last(&mut self, number: u32)
+        requires { 1 ≤ length self.old.numbers }
+        ensures numbers { self.new.numbers ≡ take (length self.old.numbers - 1) self.old.numbers ++ number ∷ [] }
+        ensures space { self.new.space ≡ self.old.space }
+    {
+        let last = self.steps.len() - 1;
+        self.steps[last] = number;
     }
 
     /// Keeps the first `depth` steps alone. The space stays.

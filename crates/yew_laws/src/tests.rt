@@ -30,6 +30,8 @@ fn paths_grow_and_compare(rt: HostRuntime) -> Result<(), Fail> {
     along.make_room()?;
     along.push(8);
     assert_eq!(rt; along.numbers(), [3, 5, 8].as_slice());
+    along.set_last(2);
+    assert_eq!(rt; along.numbers(), [3, 5, 2].as_slice());
     along.truncate(1);
     assert_eq!(rt; along.numbers(), [3].as_slice());
     Ok(())
