@@ -1,5 +1,5 @@
 -- What contracts see of a descent: the levels of nodes each of which is a child of the one before, along one path.
-use Rattle.std.specs.Prelude.{◌≡◌, ℕ, ◌+◌, List, [], ◌∷◌, length, take}
+use Rattle.std.specs.Prelude.{ℕ, ◌+◌, List, [], ◌∷◌, length, take}
 use Rattle.yew_stack.specs.Levels.{LevelValue}
 use Rattle.yew_stack.specs.declared.descent.Step.{Step}
 use Rattle.yew_stack.specs.declared.descent.Step.TheVariants as steps
@@ -20,23 +20,15 @@ abbrev pub levels_along : {K : Type 0} → List ℕ → ℕ → List (RungValue 
 levels_along path depth [] = []
 levels_along path depth (rung ∷ upper) = level_at (take depth path) rung ∷ levels_along path (depth + 1) upper
 
--- the path of the node that was given or ended last, the depth of the lowest level's node, and the levels
+-- the path of the node that was given or ended last, or one step more where a level was opened since; the depth of the
+-- lowest level's node; and the levels
 pub record DescentValue (K : Type 0) : Type 0 where
   pub path : List ℕ
   pub first : ℕ
   pub levels : List (LevelValue K)
-
--- the path is that of a node that has no level yet, a child of the highest level's node where there is a level
-abbrev pub IsAtNode : {K : Type 0} → DescentValue K → Type 0
-IsAtNode descent = length descent.path ≡ descent.first + length descent.levels
 
 -- a step as a turn of the stack of these levels, where the path is this
 abbrev pub turn_of : {S N K : Type 0} → List ℕ → Step N → Turn S N K
 turn_of path (steps.Node node) = turns.Node (record { path = record { numbers = path; space = length path }; node = node })
 turn_of path steps.Ended = turns.Ended (record { numbers = path; space = length path })
 turn_of path steps.Empty = turns.Empty
-
--- where a step gives a node, the path is that of a node without a level
-abbrev pub StandsAt : {N K : Type 0} → Step N → DescentValue K → Type 0
-StandsAt (steps.Node node) descent = IsAtNode descent
-StandsAt step descent = Unit {0}

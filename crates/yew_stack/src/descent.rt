@@ -4,7 +4,7 @@ ghost use Rattle.std.specs.Prelude.{◌≡◌, ℕ, ◌+◌, ◌<◌, ◌≤◌,
 ghost use Rattle.std.specs.List.{AllByRecursion, flat_map};
 ghost use Rattle.yew_laws.specs.Bag.{SameBag};
 ghost use Rattle.yew_laws.specs.SearchTree.{IsTask};
-ghost use Rattle.yew_stack.specs.Descents.{RungValue, DescentValue, level_at, IsAtNode, turn_of, StandsAt};
+ghost use Rattle.yew_stack.specs.Descents.{RungValue, DescentValue, level_at, turn_of};
 ghost use Rattle.yew_stack.specs.Levels.{levels, level_of, AreSound, AreNumbered};
 ghost use Rattle.yew_stack.specs.ToCome.{to_come, task_members, AllOpen};
 
@@ -126,6 +126,8 @@ pub enum Step<N> {
 /// The levels of nodes on one path: that of the node from which the search goes down, of a child of it, of a child of
 /// that, and so on. It is a [`GenStack`](crate::GenStack) whose levels share the one path on which they stand, so a step
 /// from node to node neither copies a path nor takes memory for one.
+///
+/// The path has one step more than that of the highest level's node: a step from child to child writes that step alone.
 #[derive(Drop)]
 pub struct Descent<P: Problem> {
     path: Path,
@@ -134,14 +136,14 @@ pub struct Descent<P: Problem> {
 }
 
 impl<P: Problem> Model for Descent<P> {
-    ghost use Rattle.std.specs.Prelude.{length, ◌+◌, ◌≤◌};
+    ghost use Rattle.std.specs.Prelude.{◌≡◌, ◌+◌, length};
     ghost use Rattle.yew_stack.specs.Descents.{DescentValue, levels_along};
 
     ghost Value = { DescentValue P.Kids };
 
     ghost view = { λ a. record { path = a.path.numbers; first = a.first; levels = levels_along a.path.numbers a.first a.rungs.items } };
 
-    ghost invariant = { λ a. (a.first + length a.rungs.items ≤ length a.path.numbers + 1) × (a.first + length a.rungs.items ≤ a.path.space) };
+    ghost invariant = { λ a. length a.path.numbers ≡ a.first + length a.rungs.items };
 }
 
 impl<P: Problem> Descent<P> {
@@ -159,7 +161,8 @@ impl<P: Problem> Descent<P> {
         }
     }
 
-    /// Where the descent stands: the path of the node that was given last, or of the node whose level ended last.
+    /// Where the descent stands: the path of the node that was given last, or of the node whose level ended last. Where a
+    /// level was opened since, it has one step more, which says nothing.
     #[inline(always)]
     pub fn path(&self) -> &Path
         ensures { result.now.numbers ≡ self.now.path }
@@ -171,12 +174,12 @@ impl<P: Problem> Descent<P> {
     /// are unchanged.
     #[inline(always)]
     pub fn open(&mut self, kids: P::Kids) -> Result<(), Memory>
-        requires { IsAtNode self.old }
         ensures ok { OnOk result (self.new.levels ≡ self.old.levels ++ record { parent = self.old.path; given = 0; kids = kids } ∷ []) }
         ensures err { OnErr result (self.new.levels ≡ self.old.levels) }
     {
         self.path.make_room()?;
         self.rungs.push(Rung { given: 0, kids })?;
+        self.path.push(0);
         Ok(())
     }
 
@@ -187,7 +190,6 @@ impl<P: Problem> Descent<P> {
         requires sound { AreSound (P.sound problem.now) (levels (P.remaining problem.now) self.old.levels) }
         requires numbered { AreNumbered (levels (P.remaining problem.now) self.old.levels) }
         ensures ok { IfOk result (λ step. IsTurn {S = P} {K = P.Kids} (levels (P.remaining problem.now) self.old.levels) (turn_of self.new.path step) (levels (P.remaining problem.now) self.new.levels)) }
-        ensures stands { IfOk result (λ step. StandsAt step self.new) }
         ensures levels_open { IfOk result (λ step. AllOpen P.Problem problem.now self.old.levels → AllOpen P.Problem problem.now self.new.levels × GivesTask P.Problem problem.now (turn_of self.new.path step)) }
         ensures err { OnErr result (levels (P.remaining problem.now) self.new.levels ≡ levels (P.remaining problem.now) self.old.levels) }
     {
@@ -195,14 +197,11 @@ impl<P: Problem> Descent<P> {
             return Ok(Step::Empty);
         }
         let top = self.rungs.len() - 1;
-        // A path has fewer than 2^64 steps.
-        let _steps = self.path.numbers().len();
-        let depth = self.first + top;
-        self.path.truncate(depth);
-        self.path.push(self.rungs[top].given);
+        self.path.set_last(self.rungs[top].given);
         match self.rungs[top].advance(alloc, problem)? {
             Some(node) => Ok(Step::Node(node)),
             None => {
+                let depth = self.path.numbers().len() - 1;
                 self.path.truncate(depth);
                 self.rungs.truncate(top);
                 Ok(Step::Ended)

@@ -2,7 +2,7 @@ ghost use Rattle.std.specs.Prelude.{◌≡◌, [], ◌∷◌, ◌++◌, length, 
 ghost use Rattle.std.specs.List.{AllByRecursion};
 ghost use Rattle.yew_laws.specs.SearchTree.{IsTask};
 ghost use Rattle.yew_stack.specs.Fan.{from, children_of, rank_of, IsBelowFive, fan-ranked, fan-bounded, fan-countable, fan-root_rank};
-ghost use Rattle.yew_stack.specs.Descents.{IsAtNode, StandsAt, turn_of};
+ghost use Rattle.yew_stack.specs.Descents.{turn_of};
 ghost use Rattle.yew_stack.specs.ToCome.{AllOpen};
 ghost use Rattle.yew_stack.specs.Turns.{GivesTask};
 
@@ -317,7 +317,6 @@ fn entered<P: Problem>(
 ) -> Result<(), Memory>
     requires root { P.sound problem.now (P.root problem.now) }
     requires task { IsTask P.Problem problem.now descent.old.path node }
-    requires stands { IsAtNode descent.old }
     requires levels_open { AllOpen P.Problem problem.now descent.old.levels }
     ensures { AllOpen P.Problem problem.now descent.new.levels }
 {
@@ -345,7 +344,6 @@ fn stepped<P: Problem>(
     requires levels_open { AllOpen P.Problem problem.now descent.old.levels }
     ensures levels_open { AllOpen P.Problem problem.now descent.new.levels }
     ensures task { IfOk result (λ step. GivesTask P.Problem problem.now (turn_of descent.new.path step)) }
-    ensures stands { IfOk result (λ step. StandsAt step descent.new) }
 {
     descent.next(alloc, problem)
 }

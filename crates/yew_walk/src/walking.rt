@@ -2,7 +2,6 @@
 
 ghost use Rattle.std.specs.Prelude.{◌≡◌, ℕ, ◌<◌, ◌≤◌, List, [], IfOk, IfErr, OnOk, MatchBool};
 ghost use Rattle.yew_laws.specs.SearchTree.{IsTask};
-ghost use Rattle.yew_stack.specs.Descents.{IsAtNode};
 ghost use Rattle.yew_stack.specs.ToCome.{turns_left, AllOpen};
 ghost use Rattle.yew_walk.specs.Entering.{OpensLevel, Enters, StopsEntering};
 ghost use Rattle.yew_walk.specs.Keys.{IsKeying};
@@ -34,7 +33,6 @@ fn go_down<P: Problem>(
 ) -> Result<(), Memory>
     requires root { P.sound problem.now (P.root problem.now) }
     requires node { P.sound problem.now node }
-    requires stands { IsAtNode stack.old }
     ensures { OnOk result (OpensLevel P.Problem problem.now stack.old.path node stack.old.levels stack.new.levels) }
 {
     let kids = problem.open(alloc, node)?;
@@ -58,7 +56,6 @@ fn enter<P: Problem, T: Tally<P::Node>, R: Recorder>(
 ) -> Result<Event, SearchFault>
     requires root { P.sound problem.now (P.root problem.now) }
     requires task { IsTask P.Problem problem.now stack.old.path node }
-    requires stands { IsAtNode stack.old }
     requires seat { seat.old.best ≡ best.now }
     requires keying { IsKeying keying }
     requires space { 65535 ≤ hand.old.path.space }

@@ -1,26 +1,22 @@
-use Rattle.std.proofs.Common.{◌≡◌, ◌+◌, ◌∷◌, ◌++◌, [], length, take, ap, ap₂, sym, subst, ◌∙◌, arith, length-append}
+use Rattle.std.proofs.Common.{◌≡◌, ◌+◌, ◌∷◌, ◌++◌, [], length, take, ap, ap₂, sym, ◌∙◌, arith, length-append}
 use Rattle.std.proofs.lemmas.List.{take_all}
-use Rattle.yew_stack.specs.Descents.{levels_along, IsAtNode}
-use Rattle.yew_stack.proofs.Along.{along-length, along-push}
+use Rattle.yew_stack.specs.Descents.{levels_along}
+use Rattle.yew_stack.proofs.Along.{along-push, along-same, take-front}
 use Rattle.yew_stack.proofs.descent.Descent.open.Goals as goal
 
-pub invariant_of-self-2 : goal.invariant_of-self-2
-invariant_of-self-2 g c =
-    let rungs = c.self.inside.rungs.items in
-    let stands = subst IsAtNode (sym c.self.view_is) c.requires in
-    let longer = length-append rungs (record { given = 0; kids = c.args.kids } ∷ []) in
-    let steps = along-length c.self.inside.path.numbers c.self.inside.first rungs in (
-      omega (arith, stands, steps, ap length c.in_ok-push.ensures.items, longer, ap length c.make_room.ensures.numbers),
-      omega (arith, stands, steps, ap length c.in_ok-push.ensures.items, longer, ap length c.make_room.ensures.numbers, c.in_ok-make_room.ensures.room),
-    )
+pub invariant_of-self-in_err-push : goal.invariant_of-self-in_err-push
+invariant_of-self-in_err-push g c =
+    omega (arith, c.self.invariant, ap length c.make_room.ensures.numbers, ap length c.in_err-push.ensures.items)
 
 pub returns-clause-ok : goal.returns-clause-ok
 returns-clause-ok g c =
     let rungs = c.self.inside.rungs.items in
     let path = c.self.inside.path.numbers in
     let first = c.self.inside.first in
-    let stands = subst IsAtNode (sym c.self.view_is) c.requires in
-    let whole : take (first + length rungs) path ≡ path = take_all (first + length rungs) path (omega (arith, stands, along-length path first rungs)) in
-    ap₂ (λ p rs. levels_along p first rs) c.make_room.ensures.numbers c.in_ok-push.ensures.items
+    let depth = first + length rungs in
+    let whole : take depth path ≡ path = take_all depth path (omega (arith, c.self.invariant)) in
+    let front : take depth (path ++ 0 ∷ []) ≡ take depth path = ap (λ p. take depth (p ++ 0 ∷ [])) (sym whole) ∙ take-front depth path (0 ∷ []) (omega (arith, c.self.invariant)) in
+    ap₂ (λ p rs. levels_along p first rs) (c.push-2.ensures.numbers ∙ ap (λ p. p ++ 0 ∷ []) c.make_room.ensures.numbers) c.in_ok-push.ensures.items
+    ∙ along-same (path ++ 0 ∷ []) path depth first (rungs ++ record { given = 0; kids = c.args.kids } ∷ []) front (omega (arith, length-append rungs (record { given = 0; kids = c.args.kids } ∷ [])))
     ∙ along-push path first rungs (record { given = 0; kids = c.args.kids })
     ∙ ap₂ (λ ls p. ls ++ record { parent = p; given = 0; kids = c.args.kids } ∷ []) (ap (λ v. v.levels) c.self.view_is) (whole ∙ ap (λ v. v.path) c.self.view_is)

@@ -48,7 +48,7 @@ overflow_add-self-inside g c =
     let before = c.loop-place.invariant in
     let place : c.loop-place.place < length rungs = omega (arith, c.self.inside.rungs.ok.0, c.len-place-end.ensures, ap (λ v. length v.levels) c.self.view_is, ap length before.same, length-map (levels_along path first rungs) view, length-map c.args.self.now.levels view, along-length path first rungs, along-length c.self.inside.path.numbers c.self.inside.first c.self.inside.rungs.items) in
     let level_place : c.loop-place.place < length (levels_along path first rungs) = omega (arith, place, along-length path first rungs) in
-    omega (arith, place, before.within.0, before.short)
+    omega (arith, place, before.within, before.short)
 
 pub split-requires-clause-sound : goal.split-requires-clause-sound
 split-requires-clause-sound g c κs within =
@@ -93,11 +93,11 @@ split-requires-clause-depth g c κs within =
     let before = c.loop-place.invariant in
     let place : c.loop-place.place < length rungs = omega (arith, c.self.inside.rungs.ok.0, c.len-place-end.ensures, ap (λ v. length v.levels) c.self.view_is, ap length before.same, length-map (levels_along path first rungs) view, length-map c.args.self.now.levels view, along-length path first rungs, along-length c.self.inside.path.numbers c.self.inside.first c.self.inside.rungs.items) in
     let level_place : c.loop-place.place < length (levels_along path first rungs) = omega (arith, place, along-length path first rungs) in
-    omega (arith, place, before.within.0)
+    omega (arith, place, before.within)
 
 pub invariant_of-self-in_err-split : goal.invariant_of-self-in_err-split
 invariant_of-self-in_err-split g c =
-    let same = length-set c.loop-place.self-inside.rungs.items c.loop-place.place c.split.new.self in (omega (arith, c.loop-place.invariant.within.0, same), omega (arith, c.loop-place.invariant.within.1, same))
+    omega (arith, c.loop-place.invariant.within, length-set c.loop-place.self-inside.rungs.items c.loop-place.place c.split.new.self)
 
 pub returns-in_err-split-clause-err : goal.returns-in_err-split-clause-err
 returns-in_err-split-clause-err g c =
@@ -167,7 +167,7 @@ returns-in_err-split-clause-levels_open g c =
 
 pub invariant_of-self-then-branch : goal.invariant_of-self-then-branch
 invariant_of-self-then-branch g c =
-    let same = length-set c.loop-place.self-inside.rungs.items c.loop-place.place c.split.new.self in (omega (arith, c.loop-place.invariant.within.0, same), omega (arith, c.loop-place.invariant.within.1, same))
+    omega (arith, c.loop-place.invariant.within, length-set c.loop-place.self-inside.rungs.items c.loop-place.place c.split.new.self)
 
 pub returns-then-branch-clause-ok : goal.returns-then-branch-clause-ok
 returns-then-branch-clause-ok g c =
@@ -254,7 +254,7 @@ loop-place-preserved g c =
     let set_is : map view (levels_along path first (set rungs c.loop-place.place after)) ≡ map view (set (levels_along path first rungs) c.loop-place.place (level_at node_path after)) = ap (map view) (along-set path first rungs c.loop-place.place after) in
     let none = rw c.if-branch.false at c.in_ok-split.ensures.ok in
     record {
-      within = (omega (arith, before.within.0, length-set rungs c.loop-place.place after), omega (arith, before.within.1, length-set rungs c.loop-place.place after));
+      within = omega (arith, before.within, length-set rungs c.loop-place.place after);
       short = before.short;
       same = set_is ∙ place-same view (levels_along path first rungs) c.loop-place.place level_place (level_at node_path rung) at_rung (level_at node_path after) none.2 ∙ before.same;
       spent = place-so_far view (levels_along path first rungs) c.loop-place.place level_place (level_at node_path rung) at_rung seen before.same (λ level. level.remaining ≡ []) before.spent none.0;

@@ -1,4 +1,4 @@
-use Rattle.std.proofs.Common.{◌≡◌, ◌+◌, ◌≤◌, ◌<◌, ◌^◌, length, take}
+use Rattle.std.proofs.Common.{◌≡◌, ◌+◌, ◌<◌, ◌^◌, length, take}
 use Rattle.yew_stack.specs.Descents.{levels_along}
 use Rattle.yew_stack.specs.Levels.{levels, AreSpent}
 use Rattle.yew_stack.proofs.descent.Descent.split_lowest.Given as goal
@@ -9,7 +9,7 @@ invariant-loop-place g l =
     let remaining = g.P.Problem.remaining l.problem in
     let inside = l.self-inside in
     record {
-      within : (inside.first + length inside.rungs.items ≤ length inside.path.numbers + 1) × (inside.first + length inside.rungs.items ≤ inside.path.space);
+      within : length inside.path.numbers ≡ inside.first + length inside.rungs.items;
       short : length inside.path.numbers < 2 ^ 64;
       same : levels remaining (levels_along inside.path.numbers inside.first inside.rungs.items) ≡ levels remaining l.fn.self.levels;
       spent : AreSpent (take l.place (levels remaining l.fn.self.levels));
