@@ -19,3 +19,4 @@ mod Rights
 pub mod TreeIs
 mod Weights
 mod WithinLimits
+mod Written

@@ -1,6 +1,6 @@
 //! The problem of the shortest tour as a problem of tree search.
 
-ghost use Rattle.std.specs.Prelude.{◌≡◌};
+ghost use Rattle.std.specs.Prelude.{◌≡◌, slice_index};
 ghost use Rattle.yew_tsp.specs.Nodes.{extended, IsNode};
 
 use crate::nodes::{TourKids, TourNode};
@@ -15,10 +15,11 @@ impl Tours {
     /// The list of a node that is written out with one more city.
     #[inline(always)]
     fn extend(&self, node: &TourNode, city: u32) -> TourNode
-        requires { IsNode self.now (extended self.now node.now city) }
+        requires written { slice_index node.now.cities node.now.steps ≡ node.now.last }
+        requires child { IsNode self.now (extended self.now node.now city) }
         ensures { result ≡ extended self.now node.now city }
     {
-        let last = node.cities[node.steps as usize] as usize;
+        let last = node.last as usize;
         let step = self.weight(last, city as usize);
         TourNode {
             cities: node.cities,
@@ -70,7 +71,7 @@ impl Problem for Tours {
     fn open(&self, _alloc: Global, node: TourNode) -> Result<TourKids, Memory> {
         Ok(TourKids {
             left: node.unvisited,
-            parent: node.write(),
+            parent: node.written(),
         })
     }
 
