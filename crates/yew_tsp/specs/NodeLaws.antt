@@ -14,7 +14,7 @@ use Rattle.yew_tsp.specs.declared.nodes.TourNode.{TourNode}
 use Rattle.yew_tsp.specs.Bits.{bits_of}
 use Rattle.yew_tsp.specs.Instance.{Instance, IsWithinLimits, weight_between}
 use Rattle.yew_tsp.specs.Lists.{filter-all, filter-passes, filter-agree, filter-every, filter-filter, filter-range, filter-different, filter-contains, length-range, range-all, contains-push, is_other, length-without, sum_by-without, different-push, within-push}
-use Rattle.yew_tsp.specs.Nodes.{least_weight, cities_of, unvisited_of, cleared, root_of, written, appended, children_of, rank_of, lower_of, IsNode}
+use Rattle.yew_tsp.specs.Nodes.{least_weight, cities_of, unvisited_of, cleared, root_of, appended, children_of, rank_of, lower_of, IsNode}
 use Rattle.yew_tsp.specs.Routes.{begins_with_one, way_length}
 
 -- ---- words

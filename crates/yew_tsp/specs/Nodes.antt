@@ -1,5 +1,5 @@
 -- The tree of the lists of cities that begin with city 1.
-use Rattle.std.specs.Prelude.{◌≡◌, ℕ, ◌+◌, ◌-◌, ◌*◌, ◌%◌, ◌^◌, true, not, List, [], ◌∷◌, ◌++◌, length, take, map, filter, sum_by, min, replicate, slice_set, bit_and, ◌==◌, if◌then◌else◌}
+use Rattle.std.specs.Prelude.{◌≡◌, ℕ, ◌+◌, ◌-◌, ◌*◌, ◌/◌, ◌%◌, ◌^◌, true, not, List, [], ◌∷◌, ◌++◌, length, take, map, filter, sum_by, min, replicate, slice_set, bit_and, ◌==◌, nat_le, if◌then◌else◌}
 use Rattle.std.specs.Int.{bit_not, w64}
 use Rattle.std.specs.List.{range_with_len}
 use Rattle.yew_laws.specs.Sets.{contains, are_different, are_within}
@@ -27,6 +27,18 @@ least_weight instance city = least_of (map (weight_between instance city) (other
 -- those of all cities in order
 abbrev pub least_weights : Instance → List ℕ
 least_weights instance = map (least_weight instance) (range_with_len 1 instance.cities)
+
+-- by how much the weight from one city to another is above the least from the first
+abbrev pub surplus : Instance → ℕ → ℕ → ℕ
+surplus instance from to = weight_between instance from to - least_weight instance from
+
+-- the one at a place of a table, in rows of 64 places for each city
+abbrev pub surplus_at : Instance → ℕ → ℕ
+surplus_at instance place = if nat_le (place % 64 + 1) instance.cities then surplus instance (place / 64 + 1) (place % 64 + 1) else 0
+
+-- those of all cities in order
+abbrev pub surpluses : Instance → List ℕ
+surpluses instance = map (surplus_at instance) (range_with_len 0 (64 * instance.cities))
 
 -- ---- nodes
 

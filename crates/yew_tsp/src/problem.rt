@@ -19,14 +19,13 @@ impl Tours {
         requires child { IsNode self.now (extended self.now node.now city) }
         ensures { result ≡ extended self.now node.now city }
     {
-        let last = node.last as usize;
-        let step = self.weight(last, city as usize);
+        let surplus = self.surplus(node.last as usize, city as usize);
         TourNode {
             cities: node.cities,
             steps: node.steps + 1,
             last: city as u8,
             unvisited: node.unvisited & !(1 << city),
-            lower: node.lower + step as u64 - self.least(last) as u64,
+            lower: node.lower + surplus as u64,
         }
     }
 }
@@ -89,11 +88,10 @@ impl Problem for Tours {
 
     #[inline(always)]
     fn worth(&self, node: &TourNode) -> u64 {
-        if node.steps as usize + 1 < self.cities() {
+        if node.unvisited != 0 {
             return 0;
         }
-        let last = node.last as usize;
-        WHOLE - (node.lower + self.weight(last, 1) as u64 - self.least(last) as u64)
+        WHOLE - (node.lower + self.surplus(node.last as usize, 1) as u64)
     }
 
     #[inline(always)]
