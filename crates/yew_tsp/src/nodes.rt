@@ -47,12 +47,18 @@ impl TourNode {
         let steps = self.steps;
         let last = self.last;
         for place in 0..32 {
-            let city = cities[place as usize];
-            cities[place as usize] = if place == steps { last } else { city };
+            let mut city = cities[place as usize];
+            if place == steps {
+                city = last;
+            }
+            cities[place as usize] = city;
         }
         for place in 32..64 {
-            let city = cities[place as usize];
-            cities[place as usize] = if place == steps { last } else { city };
+            let mut city = cities[place as usize];
+            if place == steps {
+                city = last;
+            }
+            cities[place as usize] = city;
         }
         TourNode {
             cities,

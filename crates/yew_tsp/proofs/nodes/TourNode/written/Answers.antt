@@ -11,10 +11,10 @@ loop-place-preserved c =
     let node = c.args.self.now in
     let cities = c.loop-place.cities in
     let place = c.loop-place.place in
-    let city = c.if-place-steps.cities in
+    let city = c.if-place-steps.city in
     elim c.if-place-steps.branch [
-      | then-place-steps w ↦ set-last node place cities city c.loop-place.invariant w.if-place-steps.true w.cities-is
-      | else-place-steps w ↦ set-same node place cities city c.loop-place.invariant w.if-place-steps.false w.cities-is
+      | then-place-steps w ↦ set-last node place cities city c.loop-place.invariant w.if-place-steps.true w.city-is
+      | else-place-steps w ↦ set-same node place cities city c.loop-place.invariant w.if-place-steps.false w.city-is
     ]
 
 pub loop-place-2-init : goal.loop-place-2-init
@@ -29,10 +29,10 @@ loop-place-2-preserved c =
     let node = c.args.self.now in
     let cities = c.loop-place-2.cities in
     let place = c.loop-place-2.place in
-    let city = c.if-place-steps-2.cities in
+    let city = c.if-place-steps-2.city in
     elim c.if-place-steps-2.branch [
-      | then-place-steps-2 w ↦ set-last node place cities city c.loop-place-2.invariant w.if-place-steps-2.true w.cities-is
-      | else-place-steps-2 w ↦ set-same node place cities city c.loop-place-2.invariant w.if-place-steps-2.false w.cities-is
+      | then-place-steps-2 w ↦ set-last node place cities city c.loop-place-2.invariant w.if-place-steps-2.true w.city-is
+      | else-place-steps-2 w ↦ set-same node place cities city c.loop-place-2.invariant w.if-place-steps-2.false w.city-is
     ]
 
 pub returns : goal.returns
