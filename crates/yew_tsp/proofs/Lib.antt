@@ -9,6 +9,7 @@ mod HeaderParts
 mod HeaderSteps
 mod Kept
 mod KeyValues
+mod Leaves
 mod Least
 mod Lowest
 mod MatrixWords
@@ -16,6 +17,8 @@ mod NumberSteps
 mod Paths
 mod Places
 mod Rights
+mod Surpluses
 pub mod TreeIs
 mod Weights
 mod WithinLimits
+mod Written

@@ -1,10 +1,10 @@
 -- The children of a node are nodes, of less rank.
-use Rattle.std.specs.Prelude.{◌≡◌, ◌≢◌, ℕ, ◌+◌, ◌-◌, ◌<◌, ◌≤◌, ◌^◌, Bool, true, false, not, ◌&&◌, ◌||◌, ◌==◌, List, [], ◌∷◌, ◌++◌, length, take, filter, sum_by, slice_index, refl}
+use Rattle.std.specs.Prelude.{◌≡◌, ◌≢◌, ℕ, ◌+◌, ◌-◌, ◌<◌, ◌≤◌, ◌^◌, Bool, true, false, not, ◌&&◌, ◌||◌, ◌==◌, List, [], ◌∷◌, ◌++◌, length, take, filter, sum_by, refl}
 use Rattle.std.specs.Int.{bit_at, w64}
 use Rattle.std.specs.List.{AllByRecursion, range_with_len}
 use Rattle.std.proofs.Common.{suc, zero-add, ap, sym, subst, ◌∙◌, arith}
 use Rattle.std.proofs.lemmas.Bool.Decides.{nat_tests}
-use Rattle.std.proofs.lemmas.List.{length-set, length_push, get_or-set_same, take_more_set, length-take-le, length-map}
+use Rattle.std.proofs.lemmas.List.{length-set, length_push, take_more_set, length-take-le, length-map}
 use Rattle.std.proofs.lemmas.List.Sums.{sum_by-cons}
 use Rattle.std.proofs.lemmas.Nat.Bits.{bit_at_clear_same, bit_at_clear_other, bit_at_mask_inside, bit_at_mask_below, bit_at_mask_above}
 use Rattle.yew_laws.specs.Sets.{contains, are_different, are_within}
@@ -14,7 +14,7 @@ use Rattle.yew_tsp.specs.declared.nodes.TourNode.{TourNode}
 use Rattle.yew_tsp.specs.Bits.{bits_of}
 use Rattle.yew_tsp.specs.Instance.{Instance, IsWithinLimits, weight_between}
 use Rattle.yew_tsp.specs.Lists.{filter-all, filter-passes, filter-agree, filter-every, filter-filter, filter-range, filter-different, filter-contains, length-range, range-all, contains-push, is_other, length-without, sum_by-without, different-push, within-push}
-use Rattle.yew_tsp.specs.Nodes.{least_weight, cities_of, unvisited_of, cleared, root_of, written, appended, children_of, rank_of, lower_of, IsNode}
+use Rattle.yew_tsp.specs.Nodes.{least_weight, cities_of, unvisited_of, cleared, root_of, appended, children_of, rank_of, lower_of, IsNode}
 use Rattle.yew_tsp.specs.Routes.{begins_with_one, way_length}
 
 -- ---- words
@@ -130,10 +130,6 @@ module _ (instance : Instance) (node : TourNode) where
       pub cities-appended : cities_of longer ≡ cities_of node ++ city ∷ []
       cities-appended = ap (λ xs. xs ++ city ∷ []) (take_more_set node.cities node.steps node.last few_steps)
 
-      -- the step is from the last city
-      from-last : slice_index (written node).cities node.steps ≡ node.last
-      from-last = get_or-set_same node.cities node.steps node.last 0 few_steps
-
       pub unvisited-appended : unvisited_of instance longer ≡ filter (is_other city) (unvisited_of instance node)
       unvisited-appended =
           let cs = range_with_len 1 instance.cities in
@@ -181,10 +177,7 @@ module _ (instance : Instance) (node : TourNode) where
             let to = free.to in let few = sound.limits.few in
             bits_of-cleared node.unvisited city (omega (arith, to, few)) ∙ ap (filter (is_other city)) sound.unvisited_is ∙ sym unvisited-appended;
         lower_is =
-            let sum = lower-appended in let own = sound.lower_is in
-            let step = ap (λ i. weight_between instance i city) from-last in
-            let least = ap (least_weight instance) from-last in
-            omega (arith, sum, own, step, least);
+            let sum = lower-appended in let own = sound.lower_is in omega (arith, sum, own);
       }
 
 -- a node that adds a city to another node's list

@@ -1,5 +1,5 @@
 -- The tree of the lists of cities that begin with city 1.
-use Rattle.std.specs.Prelude.{◌≡◌, ℕ, ◌+◌, ◌-◌, ◌*◌, ◌%◌, ◌^◌, true, not, List, [], ◌∷◌, ◌++◌, length, take, map, filter, sum_by, min, replicate, slice_index, slice_set, bit_and, ◌==◌, if◌then◌else◌}
+use Rattle.std.specs.Prelude.{◌≡◌, ℕ, ◌+◌, ◌-◌, ◌*◌, ◌/◌, ◌%◌, ◌^◌, true, not, List, [], ◌∷◌, ◌++◌, length, take, map, filter, sum_by, min, replicate, slice_set, bit_and, ◌==◌, nat_le, if◌then◌else◌}
 use Rattle.std.specs.Int.{bit_not, w64}
 use Rattle.std.specs.List.{range_with_len}
 use Rattle.yew_laws.specs.Sets.{contains, are_different, are_within}
@@ -28,6 +28,18 @@ least_weight instance city = least_of (map (weight_between instance city) (other
 abbrev pub least_weights : Instance → List ℕ
 least_weights instance = map (least_weight instance) (range_with_len 1 instance.cities)
 
+-- by how much the weight from one city to another is above the least from the first
+abbrev pub surplus : Instance → ℕ → ℕ → ℕ
+surplus instance from to = weight_between instance from to - least_weight instance from
+
+-- the one at a place of a table, in rows of 64 places for each city
+abbrev pub surplus_at : Instance → ℕ → ℕ
+surplus_at instance place = if nat_le (place % 64 + 1) instance.cities then surplus instance (place / 64 + 1) (place % 64 + 1) else 0
+
+-- those of all cities in order
+abbrev pub surpluses : Instance → List ℕ
+surpluses instance = map (surplus_at instance) (range_with_len 0 (64 * instance.cities))
+
 -- ---- nodes
 
 -- the cities of a node's list, in order
@@ -44,7 +56,7 @@ cleared word place = bit_and word (bit_not w64 (1 * 2 ^ place % 2 ^ 64))
 
 -- city 1 alone, of so many cities, with what its tours have at least
 abbrev pub start_at : ℕ → ℕ → TourNode
-start_at cities lower = record { cities = replicate 60 0; steps = 0; last = 1; unvisited = 2 ^ (cities + 1) - 4; lower = lower }
+start_at cities lower = record { cities = replicate 64 0; steps = 0; last = 1; unvisited = 2 ^ (cities + 1) - 4; lower = lower }
 
 abbrev pub root_of : Instance → TourNode
 root_of instance = start_at instance.cities (sum_by (least_weight instance) (range_with_len 1 instance.cities))
@@ -56,8 +68,7 @@ written node = record node { cities = slice_set node.cities node.steps node.last
 -- a list, all of whose cities are written, with one more city at its end
 abbrev pub extended : Instance → TourNode → ℕ → TourNode
 extended instance node city =
-    let last = slice_index node.cities node.steps in
-    record { cities = node.cities; steps = node.steps + 1; last = city; unvisited = cleared node.unvisited city; lower = node.lower + weight_between instance last city - least_weight instance last }
+    record { cities = node.cities; steps = node.steps + 1; last = city; unvisited = cleared node.unvisited city; lower = node.lower + weight_between instance node.last city - least_weight instance node.last }
 
 abbrev pub appended : Instance → TourNode → ℕ → TourNode
 appended instance node city = extended instance (written node) city
@@ -89,7 +100,7 @@ bound_of instance node = 2 ^ 37 - lower_of instance node
 -- different cities from city 1 on, and the node's numbers are those of its list
 pub record IsNode (instance : Instance) (node : TourNode) : Type 0 where
   pub limits : IsWithinLimits instance
-  pub size : length node.cities ≡ 60
+  pub size : length node.cities ≡ 64
   pub count : length (unvisited_of instance node) + (node.steps + 1) ≡ instance.cities
   pub begins : begins_with_one (cities_of node) ≡ true
   pub within : are_within 1 instance.cities (cities_of node) ≡ true

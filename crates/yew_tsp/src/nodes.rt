@@ -1,12 +1,13 @@
 //! The nodes of the tree of lists of cities.
 
-ghost use Rattle.std.specs.Prelude.{◌≡◌, ◌<◌, ◌≤◌, length};
+ghost use Rattle.std.specs.Prelude.{◌≡◌, ◌<◌, ◌≤◌, slice_index};
 
 /// A list of different cities that begins with city 1, and what is known of the tours that begin with it.
 #[derive(Clone, Copy, Debug, PartialEq, Eq)]
 pub struct TourNode {
-    /// The cities before the last one in order, numbered from 1. What stands behind them has no meaning.
-    pub(crate) cities: [u8; 60],
+    /// The cities before the last one in order, numbered from 1. What stands behind them has no meaning. There are at most
+    /// 59 of them: with 64 places the list is copied by whole vectors.
+    pub(crate) cities: [u8; 64],
     /// How many steps were taken: how many cities stand before the last one.
     pub(crate) steps: u8,
     /// The last city. It is written behind the others only where the node is opened: most children are cut off.
@@ -26,7 +27,7 @@ impl TourNode {
         ensures { result ≡ start_at cities lower }
     {
         TourNode {
-            cities: [0; 60],
+            cities: [0; 64],
             steps: 0,
             last: 1,
             // Bits 2 to the number of cities.
@@ -35,14 +36,37 @@ impl TourNode {
         }
     }
 
-    /// The node with its last city written behind the others.
+    /// The node with its last city written behind the others. Each place is set anew, in loops that are short enough to
+    /// become choices between whole vectors: a byte stored by itself would delay the next copy of the list.
     #[inline(always)]
-    pub(crate) fn write(mut self) -> TourNode
-        requires { self.steps < 60 }
-        ensures { result ≡ written self }
+    pub(crate) fn written(&self) -> TourNode
+        requires { self.now.steps < 64 }
+        ensures { result ≡ written self.now }
     {
-        self.cities[self.steps as usize] = self.last;
-        self
+        let mut cities = self.cities;
+        let steps = self.steps;
+        let last = self.last;
+        for place in 0..32 {
+            let mut city = cities[place as usize];
+            if place == steps {
+                city = last;
+            }
+            cities[place as usize] = city;
+        }
+        for place in 32..64 {
+            let mut city = cities[place as usize];
+            if place == steps {
+                city = last;
+            }
+            cities[place as usize] = city;
+        }
+        TourNode {
+            cities,
+            steps,
+            last,
+            unvisited: self.unvisited,
+            lower: self.lower,
+        }
     }
 }
 
@@ -53,4 +77,5 @@ pub struct TourKids {
     pub(crate) parent: TourNode,
     /// Bit c is set where city c is still to be tried.
     pub(crate) left: u64,
+    ghost last_written: { slice_index parent.cities parent.steps ≡ parent.last },
 }

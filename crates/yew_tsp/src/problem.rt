@@ -1,6 +1,6 @@
 //! The problem of the shortest tour as a problem of tree search.
 
-ghost use Rattle.std.specs.Prelude.{◌≡◌};
+ghost use Rattle.std.specs.Prelude.{◌≡◌, slice_index};
 ghost use Rattle.yew_tsp.specs.Nodes.{extended, IsNode};
 
 use crate::nodes::{TourKids, TourNode};
@@ -15,17 +15,17 @@ impl Tours {
     /// The list of a node that is written out with one more city.
     #[inline(always)]
     fn extend(&self, node: &TourNode, city: u32) -> TourNode
-        requires { IsNode self.now (extended self.now node.now city) }
+        requires written { slice_index node.now.cities node.now.steps ≡ node.now.last }
+        requires child { IsNode self.now (extended self.now node.now city) }
         ensures { result ≡ extended self.now node.now city }
     {
-        let last = node.cities[node.steps as usize] as usize;
-        let step = self.weight(last, city as usize);
+        let surplus = self.surplus(node.last as usize, city as usize);
         TourNode {
             cities: node.cities,
             steps: node.steps + 1,
             last: city as u8,
             unvisited: node.unvisited & !(1 << city),
-            lower: node.lower + step as u64 - self.least(last) as u64,
+            lower: node.lower + surplus as u64,
         }
     }
 }
@@ -70,7 +70,7 @@ impl Problem for Tours {
     fn open(&self, _alloc: Global, node: TourNode) -> Result<TourKids, Memory> {
         Ok(TourKids {
             left: node.unvisited,
-            parent: node.write(),
+            parent: node.written(),
         })
     }
 
@@ -88,11 +88,10 @@ impl Problem for Tours {
 
     #[inline(always)]
     fn worth(&self, node: &TourNode) -> u64 {
-        if node.steps as usize + 1 < self.cities() {
+        if node.unvisited != 0 {
             return 0;
         }
-        let last = node.last as usize;
-        WHOLE - (node.lower + self.weight(last, 1) as u64 - self.least(last) as u64)
+        WHOLE - (node.lower + self.surplus(node.last as usize, 1) as u64)
     }
 
     #[inline(always)]

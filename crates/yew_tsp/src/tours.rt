@@ -1,10 +1,11 @@
 //! What a problem of tours is about: its cities and the weights between them.
 
-ghost use Rattle.std.specs.Prelude.{◌≡◌, ◌*◌, ◌≤◌, length, IfOk};
+ghost use Rattle.std.specs.Prelude.{◌≡◌, ◌*◌, ◌<◌, ◌≤◌, length, IfOk};
 ghost use Rattle.yew_tsp.specs.Instance.{Instance, IsWithinLimits, weight_between};
-ghost use Rattle.yew_tsp.specs.Nodes.{least_weight};
+ghost use Rattle.yew_tsp.specs.Nodes.{least_weight, least_weights, surpluses as surpluses_in, surplus as surplus_between, surplus_at as entry};
 
 use crate::nodes::TourNode;
+use std::alloc::Global;
 use std::marker::Model;
 use yew_laws::Memory;
 
@@ -37,13 +38,51 @@ fn least_from(cities: usize, weights: &[u32], city: usize) -> u32
     least
 }
 
-/// A problem of tours: the number of cities and the weights between them. Beside them it keeps for each city the least
-/// weight from it to another one, and the root of its tree.
+/// How many places a city has in the table of surpluses. There are at most 60 cities; a power of two makes the look-up a
+/// shift.
+const ROW: usize = 64;
+
+/// What stands at a place of the table of surpluses: by how much the weight from a city is above the least of those to
+/// others, and 0 behind the last city.
+fn surplus_at(cities: usize, weights: &[u32], least: &[u32], place: usize) -> u32
+    requires limits { IsWithinLimits (record { cities = cities; weights = weights.now }) }
+    requires least { least.now ≡ least_weights (record { cities = cities; weights = weights.now }) }
+    requires place { place < 64 * cities }
+    ensures { result ≡ entry (record { cities = cities; weights = weights.now }) place }
+{
+    let from = place / ROW + 1;
+    let to = place % ROW + 1;
+    if to > cities {
+        return 0;
+    }
+    weight_at(cities, weights, from, to).saturating_sub(least[from - 1])
+}
+
+/// The table of surpluses, in a row of [`ROW`] places for each city.
+fn surpluses_of(
+    alloc: Global,
+    cities: usize,
+    weights: &[u32],
+    least: &[u32],
+) -> Result<Vec<u32>, Memory>
+    requires limits { IsWithinLimits (record { cities = cities; weights = weights.now }) }
+    requires least { least.now ≡ least_weights (record { cities = cities; weights = weights.now }) }
+    ensures { IfOk result (λ surpluses. surpluses.items ≡ surpluses_in (record { cities = cities; weights = weights.now })) }
+{
+    let mut surpluses = Vec::with_capacity(alloc, ROW * cities)?;
+    for place in 0..ROW * cities {
+        surpluses.push(surplus_at(cities, weights, least, place))?;
+    }
+    Ok(surpluses)
+}
+
+/// A problem of tours: the number of cities and the weights between them. Beside them it keeps by how much each weight from
+/// a city is above the least from it to another one, and the root of its tree.
 #[derive(Drop)]
 pub struct Tours {
     cities: usize,
     weights: Vec<u32>,
-    least: Vec<u32>,
+    surpluses: Vec<u32>,
     root: TourNode,
 }
 
@@ -53,12 +92,12 @@ impl Model for Tours {
 
     ghost Value = { Instance };
 
-    ghost use Rattle.yew_tsp.specs.Nodes.{least_weights, root_of};
+    ghost use Rattle.yew_tsp.specs.Nodes.{surpluses as surpluses_in, root_of};
 
     ghost view = { λ t. record { cities = t.cities; weights = t.weights.items } };
 
     ghost invariant = { λ t. let instance : Instance = record { cities = t.cities; weights = t.weights.items } in
-        (t.least.items ≡ least_weights instance) × (t.root ≡ root_of instance) };
+        (t.surpluses.items ≡ surpluses_in instance) × (t.root ≡ root_of instance) };
 }
 
 impl Tours {
@@ -69,27 +108,21 @@ impl Tours {
         requires { IsWithinLimits (record { cities = cities; weights = weights.items }) }
         ensures { IfOk result (λ problem. problem ≡ record { cities = cities; weights = weights.items }) }
     {
-        let mut least = Vec::with_capacity(*weights.allocator(), cities)?;
+        let alloc = *weights.allocator();
+        let mut least = Vec::with_capacity(alloc, cities)?;
         let mut total = 0;
         for city in 1..cities + 1 {
             let weight = least_from(cities, weights.as_slice(), city);
             total += weight as u64;
             least.push(weight)?;
         }
+        let surpluses = surpluses_of(alloc, cities, weights.as_slice(), least.as_slice())?;
         Ok(Tours {
             root: TourNode::root(cities, total),
             cities,
             weights,
-            least,
+            surpluses,
         })
-    }
-
-    /// The number of cities.
-    #[inline(always)]
-    pub(crate) fn cities(&self) -> usize
-        ensures { result ≡ self.now.cities }
-    {
-        self.cities
     }
 
     /// The weights from each city to each, row by row.
@@ -108,23 +141,14 @@ impl Tours {
         self.root
     }
 
-    /// The weight from one city to another.
+    /// By how much the weight from one city to another is above the least from the first.
     #[inline(always)]
-    pub(crate) fn weight(&self, from: usize, to: usize) -> u32
-        requires square { length self.now.weights ≡ self.now.cities * self.now.cities }
+    pub(crate) fn surplus(&self, from: usize, to: usize) -> u32
+        requires few { self.now.cities ≤ 60 }
         requires from { (1 ≤ from) × (from ≤ self.now.cities) }
         requires to { (1 ≤ to) × (to ≤ self.now.cities) }
-        ensures { result ≡ weight_between self.now from to }
+        ensures { result ≡ surplus_between self.now from to }
     {
-        weight_at(self.cities, self.weights(), from, to)
-    }
-
-    /// The least weight from a city to another one.
-    #[inline(always)]
-    pub(crate) fn least(&self, city: usize) -> u32
-        requires { (1 ≤ city) × (city ≤ self.now.cities) }
-        ensures { result ≡ least_weight self.now city }
-    {
-        self.least[city - 1]
+        self.surpluses[(from - 1) * ROW + (to - 1)]
     }
 }

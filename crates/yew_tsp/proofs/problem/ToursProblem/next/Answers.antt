@@ -12,8 +12,8 @@ returns-then-left-eq0-clause-ok c =
     let none = ap (λ word. map (extended c.args.self.now kids.parent) (bits_of word)) c.if-left-eq0.true ∙ ap (map (extended c.args.self.now kids.parent)) bits_of-zero in
     (none, none)
 
-pub extend-child-requires : goal.extend-child-requires
-extend-child-requires c =
+pub extend-child-requires-clause-child : goal.extend-child-requires-clause-child
+extend-child-requires-clause-child c =
     let kids = c.args.kids.now in
     let fits : kids.left < 2 ^ 64 = omega arith in
     (subst (λ cities. AllByRecursion (IsNode c.args.self.now) (map (extended c.args.self.now kids.parent) cities)) (bits_of-trailing kids.left c.if-left-eq0.false fits) c.requires.kids).0
