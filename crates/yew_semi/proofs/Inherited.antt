@@ -1,14 +1,15 @@
 -- Which generators a semigroup has from its parent.
-use Rattle.std.proofs.Common.{◌≡◌, ◌≢◌, ℕ, zero, suc, ◌+◌, ◌-◌, ◌*◌, ◌^◌, ◌<◌, ◌≤◌, Bool, true, false, not, ◌&&◌, ◌==◌, nat_lt, List, length, inl, inr, refl, ap, sym, subst, ◌∙◌, arith}
+use Rattle.std.proofs.Common.{◌≡◌, ◌≢◌, ℕ, zero, suc, ◌+◌, ◌-◌, ◌*◌, ◌^◌, ◌<◌, ◌≤◌, true, false, not, ◌&&◌, ◌==◌, nat_lt, List, length, inl, inr, refl, ap, sym, subst, ◌∙◌, arith}
 use Rattle.std.proofs.lemmas.Bool.Decides.{nat_tests}
 use Rattle.std.specs.Int.{bit_at}
 use Rattle.std.specs.List.{list_all}
 use Rattle.yew_laws.specs.Sets.{contains}
+use Rattle.yew_semi.proofs.Words.{test_cases, equal_is, other_is, least-member, greatest-without}
 use Rattle.yew_semi.specs.GapBound.{gap-bound, members-all, members_to-length}
 use Rattle.yew_semi.specs.GapLaws.{both_first, both_second, both, not_is, not_from, all-from, any-passes, IsMinimal, minimal-from_test, test-from_minimal, snoc-old, snoc-new, snoc-kept, snoc-cases, snoc-outside}
 use Rattle.yew_semi.specs.SemigroupLaws.{known-from}
 use Rattle.yew_semi.specs.SemigroupTree.{is_sum_of_members, is_generator, without, IsSemigroup}
-use Rattle.yew_semi.specs.Words.{IsLeastMember, AreInherited, AreGreater}
+use Rattle.yew_semi.specs.Words.{IsLeastMember, IsGreatestGap, AreInherited, AreGreater}
 
 module _ (xs : List ℕ) (g : ℕ) (minimal : IsMinimal xs g) where
   -- a greater generator stays one
@@ -71,20 +72,12 @@ module _ (xs : List ℕ) (g : ℕ) (minimal : IsMinimal xs g) where
       refl
 
   module _ (m : ℕ) (least : IsLeastMember xs m) where
-    at_least : (h : ℕ) → 0 < h → contains xs h ≡ false → m ≤ h
-    at_least h from member =
-        elim (nat_lt h m) as (λ b. nat_lt h m ≡ b → m ≤ h) [
-          | true ↦ λ e. let less : h < m = grind (arith, nat_tests) in let inside = least.least h from less in absurd (cc)
-          | false ↦ λ e. grind (arith, nat_tests)
-        ]
-        refl
-
     -- where the least member stays, a new generator is the sum with it
     pub new-least : g ≢ m → (x : ℕ) → IsMinimal (without xs g) x → is_generator xs x ≡ false → x ≡ g + m
     new-least other x known fails =
         let new = new-sum x known fails in
         let sum = new.sum in
-        let more = at_least new.other new.positive new.member in
+        let more = least-member xs m least new.other new.positive new.member in
         let positive = least.positive in
         elim (nat_lt m new.other) as (λ b. nat_lt m new.other ≡ b → x ≡ g + m) [
           | true ↦ λ e.
@@ -100,7 +93,7 @@ module _ (xs : List ℕ) (g : ℕ) (minimal : IsMinimal xs g) where
     new-ordinary same x known fails other =
         let new = new-sum x known fails in
         let sum = new.sum in
-        let more = at_least new.other new.positive new.member in
+        let more = least-member xs m least new.other new.positive new.member in
         elim (nat_lt (g + 1) new.other) as (λ b. nat_lt (g + 1) new.other ≡ b → x ≡ 2 * g) [
           | true ↦ λ e.
               let less : g + 1 < new.other = grind (arith, nat_tests) in
@@ -159,71 +152,58 @@ least-bound xs (suc n) least =
     let most = members_to-length xs n in
     omega arith
 
--- what a semigroup of at most 40 gaps has: its greatest gap and its least member
-pub record AreSmall (g m : ℕ) : Type 0 where
-  pub gap : g < 80
-  pub member : m ≤ 41
+-- what a semigroup of at most 40 gaps has: its Frobenius number and its least member
+pub record AreSmall (frobenius multiplicity : ℕ) : Type 0 where
+  pub gap : frobenius < 80
+  pub member : multiplicity ≤ 41
 
-pub small-from : (xs : List ℕ) (g m : ℕ) → IsSemigroup 40 (without xs g) → IsLeastMember (without xs g) m → AreSmall g m
-small-from xs g m semigroup least =
-    let most = gap-bound (without xs g) (known-from semigroup).closed g (snoc-new xs g) in
+pub small-from : (xs : List ℕ) (f m : ℕ) → IsSemigroup 40 xs → IsGreatestGap xs f → IsLeastMember xs m → AreSmall f m
+small-from xs zero m semigroup greatest least =
     let few = semigroup.few in
-    let member = least-bound (without xs g) m least in
+    let member = least-bound xs m least in
+    record { gap = omega arith; member = omega arith }
+small-from xs (suc f) m semigroup greatest least =
+    let most = gap-bound xs (known-from semigroup).closed (suc f) (greatest.gap (omega arith)) in
+    let few = semigroup.few in
+    let member = least-bound xs m least in
     record { gap = omega arith; member = omega arith }
 
-above-without : (xs : List ℕ) (g m : ℕ) → IsMinimal xs g → 0 < m → (x : ℕ) → contains (without xs g) x ≡ true → x < g + m
-above-without xs g m minimal positive x inside =
-    elim (snoc-cases xs g x inside) [ inl same ↦ omega arith | inr old ↦ let less = minimal.above x old in omega arith ]
-
-test_cases : {P : Type 0} (b : Bool) → (b ≡ true → P) → (b ≡ false → P) → P
-test_cases true f g = f refl
-test_cases false f g = g refl
+-- of a semigroup without a generator
+pub small-without : (xs : List ℕ) (g m : ℕ) → IsSemigroup 40 (without xs g) → IsMinimal xs g → IsLeastMember (without xs g) m → AreSmall g m
+small-without xs g m semigroup minimal least = small-from (without xs g) g m semigroup (greatest-without xs g minimal) least
 
 -- what is inherited where the least member stays
-pub inherited-kept : (xs : List ℕ) (g m greater : ℕ) → IsMinimal xs g → IsLeastMember xs m → g ≢ m → AreGreater xs g greater → IsSemigroup 40 (without xs g) → AreInherited (without xs g) greater (g + m)
-inherited-kept xs g m greater minimal least other given semigroup =
-    let small = small-from xs g m semigroup (least-kept xs g minimal m least other) in
-    let gap = small.gap in
-    let member = small.member in
-    let positive = least.positive in
-    record {
-      fits = given.fits;
-      each = λ x within bit. let known = given.each x within bit in test-from_minimal (without xs g) x (minimal-kept xs g minimal x known.0 (minimal-from_test xs x known.1));
-      others = λ x within away test.
-          let known = minimal-from_test (without xs g) x test in
-          test_cases (is_generator xs x)
-          (λ e. given.others x within (known.above g (snoc-new xs g)) e)
-          (λ e. absurd (away (new-least xs g minimal m least other x known e)));
-      above = above-without xs g m minimal positive;
-      positive = omega arith;
-      small = omega arith;
-    }
+pub inherited-kept : (xs : List ℕ) (g m greater : ℕ) → IsMinimal xs g → IsLeastMember xs m → g ≢ m → AreGreater xs g greater → AreInherited (without xs g) g m greater
+inherited-kept xs g m greater minimal least other given = record {
+  fits = given.fits;
+  each = λ i bit. let known = given.each i bit in let some = known.0 in test-from_minimal (without xs g) (g + i) (minimal-kept xs g minimal (g + i) (omega arith) (minimal-from_test xs (g + i) known.1));
+  others = λ x away test.
+      let known = minimal-from_test (without xs g) x test in
+      test_cases (is_generator xs x)
+      (λ e. given.others x (known.above g (snoc-new xs g)) e)
+      (λ e. absurd (away (new-least xs g minimal m least other x known e)));
+}
 
 -- and where it is taken out
-pub inherited-next : (xs : List ℕ) (g m greater word : ℕ) → IsMinimal xs g → IsLeastMember xs m → g ≡ m → AreGreater xs g greater → IsSemigroup 40 (without xs g) →
-    word < 2 ^ 128 → bit_at word (2 * g) ≡ 1 → ((x : ℕ) → x ≢ 2 * g → bit_at word x ≡ bit_at greater x) → AreInherited (without xs g) word (g + (g + 1))
-inherited-next xs g m greater word minimal least same given semigroup fits new old =
-    let small = small-from xs g (g + 1) semigroup (least-next xs g minimal m least same) in
-    let gap = small.gap in
-    let member = small.member in
-    let positive = minimal.positive in
-    record {
-      fits = fits;
-      each = λ x within bit.
-          test_cases (x == 2 * g)
-          (λ e. let it : 2 * g ≡ x = grind (arith, nat_tests) in subst (λ y. is_generator (without xs g) y ≡ true) it (test-from_minimal (without xs g) (2 * g) (twice-minimal xs g minimal m least same)))
-          (λ e. let it : x ≢ 2 * g = grind (arith, nat_tests) in
-          let known = given.each x within (sym (old x it) ∙ bit) in
-          test-from_minimal (without xs g) x (minimal-kept xs g minimal x known.0 (minimal-from_test xs x known.1)));
-      others = λ x within away test.
-          let known = minimal-from_test (without xs g) x test in
-          test_cases (x == 2 * g)
-          (λ e. let it : x ≡ 2 * g = grind (arith, nat_tests) in ap (bit_at word) it ∙ new)
-          (λ e. let it : x ≢ 2 * g = grind (arith, nat_tests) in
-          test_cases (is_generator xs x)
-          (λ f. old x it ∙ given.others x within (known.above g (snoc-new xs g)) f)
-          (λ f. absurd (it (new-ordinary xs g minimal m least same x known f away))));
-      above = above-without xs g (g + 1) minimal (omega arith);
-      positive = omega arith;
-      small = omega arith;
-    }
+pub inherited-next : (xs : List ℕ) (g m greater window : ℕ) → IsMinimal xs g → IsLeastMember xs m → g ≡ m → AreGreater xs g greater →
+    window < 2 ^ 64 → bit_at window g ≡ 1 → ((i : ℕ) → i ≢ g → bit_at window i ≡ bit_at greater i) → AreInherited (without xs g) g (g + 1) window
+inherited-next xs g m greater window minimal least same given fits new old = record {
+  fits = fits;
+  each = λ i bit.
+      test_cases (i == g)
+      (λ e. let it : i ≡ g = equal_is i g e in
+      let twice : 2 * g ≡ g + i = omega arith in
+      subst (λ y. is_generator (without xs g) y ≡ true) twice (test-from_minimal (without xs g) (2 * g) (twice-minimal xs g minimal m least same)))
+      (λ e. let known = given.each i (sym (old i (other_is i g e)) ∙ bit) in
+      let some = known.0 in
+      test-from_minimal (without xs g) (g + i) (minimal-kept xs g minimal (g + i) (omega arith) (minimal-from_test xs (g + i) known.1)));
+  others = λ x away test.
+      let known = minimal-from_test (without xs g) x test in
+      let past = known.above g (snoc-new xs g) in
+      test_cases (x == 2 * g)
+      (λ e. let it = equal_is x (2 * g) e in let place : x - g ≡ g = omega arith in ap (bit_at window) place ∙ new)
+      (λ e. let it = other_is x (2 * g) e in
+      test_cases (is_generator xs x)
+      (λ n. old (x - g) (omega arith) ∙ given.others x past n)
+      (λ n. absurd (it (new-ordinary xs g minimal m least same x known n away))));
+}

@@ -57,10 +57,12 @@ impl Problem for Semigroups {
 
     ghost countable = { λ semigroups gaps s. semigroups-countable semigroups.genus semigroups.few gaps s };
 
+    #[inline(always)]
     fn root(&self, _alloc: Global) -> Result<Semigroup, Memory> {
         Ok(Semigroup::all())
     }
 
+    #[inline(always)]
     fn open(&self, _alloc: Global, node: Semigroup) -> Result<Generators, Memory> {
         if node.genus() < self.genus {
             Ok(node.generators())
@@ -69,14 +71,17 @@ impl Problem for Semigroups {
         }
     }
 
+    #[inline(always)]
     fn next(&self, _alloc: Global, kids: &mut Generators) -> Result<Option<Semigroup>, Memory> {
         Ok(kids.take())
     }
 
+    #[inline(always)]
     fn worth(&self, _node: &Semigroup) -> u64 {
         0
     }
 
+    #[inline(always)]
     fn bound(&self, _node: &Semigroup) -> u64 {
         1
     }
