@@ -39,22 +39,39 @@ filter-longer p low (suc n) m h =
     ap (λ k. filter p (range_with_len low k)) same
     ∙ ap (λ xs. cond (p low) (low ∷ xs) xs) (filter-longer p (low + 1) n m (λ x a. h x (omega arith)))
 
+-- what passes of a range in two parts
+pub filter-parts : (p : ℕ → Bool) (low n m : ℕ) → filter p (range_with_len low (n + m)) ≡ filter p (range_with_len low n) ++ filter p (range_with_len (low + n) m)
+filter-parts p low zero m =
+    let same : 0 + m ≡ m = omega arith in
+    let here : low ≡ low + 0 = omega arith in
+    ap₂ (λ a k. filter p (range_with_len a k)) here same
+filter-parts p low (suc n) m =
+    let same : suc n + m ≡ suc (n + m) = omega arith in
+    let next : low + 1 + n ≡ low + suc n = omega arith in
+    ap (λ k. filter p (range_with_len low k)) same
+    ∙ ap (λ xs. cond (p low) (low ∷ xs) xs) (filter-parts p (low + 1) n m ∙ ap (λ a. filter p (range_with_len (low + 1) n) ++ filter p (range_with_len a m)) next)
+    ∙ push (p low) (filter p (range_with_len (low + 1) n)) (filter p (range_with_len (low + suc n) m))
+  where
+    push : (b : Bool) (xs ys : List ℕ) → cond b (low ∷ (xs ++ ys)) (xs ++ ys) ≡ cond b (low ∷ xs) xs ++ ys
+    push true xs ys = refl
+    push false xs ys = refl
+
 -- the first number taken off
-pub filter-pop : (p q : ℕ → Bool) (low n g : ℕ) → low ≤ g → g < low + n → ((x : ℕ) → x < low + n → x ≢ g → p x ≡ q x) → p g ≡ true → q g ≡ false → ((x : ℕ) → x < g → p x ≡ false) → filter p (range_with_len low n) ≡ g ∷ filter q (range_with_len low n)
+pub filter-pop : (p q : ℕ → Bool) (low n g : ℕ) → low ≤ g → g < low + n → ((x : ℕ) → low ≤ x → x < low + n → x ≢ g → p x ≡ q x) → p g ≡ true → q g ≡ false → ((x : ℕ) → low ≤ x → x < g → p x ≡ false) → filter p (range_with_len low n) ≡ g ∷ filter q (range_with_len low n)
 filter-pop p q low zero g a b same old new first = absurd (omega arith)
 filter-pop p q low (suc n) g a b same old new first =
     elim (low == g) as (λ v. (low == g) ≡ v → filter p (range_with_len low (suc n)) ≡ g ∷ filter q (range_with_len low (suc n))) [
       | true ↦ λ e.
           let here : low ≡ g = grind (arith, nat_tests) in
-          let rest = filter-agree p q (low + 1) n (λ x c d. same x (omega arith) (omega arith)) in
+          let rest = filter-agree p q (low + 1) n (λ x c d. same x (omega arith) (omega arith) (omega arith)) in
           ap₂ (λ v xs. cond v (low ∷ xs) xs) (ap p here ∙ old) rest
           ∙ ap₂ (λ x xs. x ∷ xs) here (sym (ap (λ v. cond v (low ∷ filter q (range_with_len (low + 1) n)) (filter q (range_with_len (low + 1) n))) (ap q here ∙ new)))
       | false ↦ λ e.
           let other : low ≢ g = grind (arith, nat_tests) in
-          let rest = filter-pop p q (low + 1) n g (omega arith) (omega arith) (λ x c other'. same x (omega arith) other') old new first in
-          let none = first low (omega arith) in
+          let rest = filter-pop p q (low + 1) n g (omega arith) (omega arith) (λ x a b other'. same x (omega arith) (omega arith) other') old new (λ x a b. first x (omega arith) b) in
+          let none = first low (omega arith) (omega arith) in
           ap₂ (λ v xs. cond v (low ∷ xs) xs) none rest
-          ∙ ap (λ xs. g ∷ xs) (sym (ap (λ v. cond v (low ∷ filter q (range_with_len (low + 1) n)) (filter q (range_with_len (low + 1) n))) (sym (same low (omega arith) other) ∙ none)))
+          ∙ ap (λ xs. g ∷ xs) (sym (ap (λ v. cond v (low ∷ filter q (range_with_len (low + 1) n)) (filter q (range_with_len (low + 1) n))) (sym (same low (omega arith) (omega arith) other) ∙ none)))
     ]
     refl
 
