@@ -141,9 +141,8 @@ parent-sound pair kids some fits sound =
     let is : remaining_of pair kids ≡ with_image kids.parent t ∷ map (with_image kids.parent) others = ap (map (with_image kids.parent)) left in
     node-before pair kids.parent t (subst (AllByRecursion (IsNode pair)) is sound).0
 
--- what is left after a child was taken
-pub remaining-taken : (pair : GraphPair) (old new : Kids) (child : List ℕ) → old.bits ≢ 0 → Takes old child new → remaining_of pair old ≡ child ∷ map (with_image new.parent) (in_word new.number new.bits ++ candidates_from pair new.parent (64 * (new.number + 1)))
-remaining-taken pair old new child some takes =
+-- what is left after a vertex was taken
+pub remaining-taken : (pair : GraphPair) (old new : Kids) (image : ℕ) → old.bits ≢ 0 → Takes old image new → remaining_of pair old ≡ map (with_image new.parent) (image ∷ (in_word new.number new.bits ++ candidates_from pair new.parent (64 * (new.number + 1))))
+remaining-taken pair old new image some takes =
     ap (map (with_image old.parent)) (left-some pair old some ∙ ap (λ xs. xs ++ candidates_from pair old.parent (64 * (old.number + 1))) takes.first)
-    ∙ ap₂ (λ (c : List ℕ) (number : ℕ). c ∷ map (with_image old.parent) (in_word new.number new.bits ++ candidates_from pair old.parent (64 * (number + 1)))) (sym takes.child_is) (sym takes.same_number)
-    ∙ ap (λ parent. child ∷ map (with_image parent) (in_word new.number new.bits ++ candidates_from pair parent (64 * (new.number + 1)))) (sym takes.same_parent)
+    ∙ ap₂ (λ (parent : List ℕ) (number : ℕ). map (with_image parent) (image ∷ (in_word new.number new.bits ++ candidates_from pair parent (64 * (number + 1))))) (sym takes.same_parent) (sym takes.same_number)

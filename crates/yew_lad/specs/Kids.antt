@@ -32,10 +32,8 @@ left_from pair kids = if kids.bits == 0 then [] else in_word kids.number kids.bi
 abbrev pub remaining_of : GraphPair → Kids → List (List ℕ)
 remaining_of pair kids = map (with_image kids.parent) (left_from pair kids)
 
--- the child that sends the next vertex to the least vertex in the word, which is taken off
-pub record Takes (old : Kids) (child : List ℕ) (new : Kids) : Type 0 where
-  pub image : ℕ
+-- the least vertex in the word is taken off
+pub record Takes (old : Kids) (image : ℕ) (new : Kids) : Type 0 where
   pub first : in_word old.number old.bits ≡ image ∷ in_word new.number new.bits
-  pub child_is : child ≡ with_image old.parent image
   pub same_parent : new.parent ≡ old.parent
   pub same_number : new.number ≡ old.number

@@ -149,16 +149,26 @@ impl MapKids {
         self.word = word;
     }
 
-    /// The next child of the word, by rising image.
+    /// Takes the least vertex off the word.
     #[inline(always)]
-    pub(crate) fn take(&mut self) -> MapNode
+    pub(crate) fn take(&mut self) -> usize
         requires some { self.old.bits ≢ 0 }
-        requires count { length self.old.parent < 64 }
-        ensures { Takes self.old result self.new }
+        ensures taken { Takes self.old result self.new }
+        ensures small { result < 1024 }
     {
         let bits = self.word.bits;
         self.word.bits = bits & (bits - 1);
-        self.parent
-            .child(64 * self.word.number + bits.trailing_zeros() as usize)
+        64 * self.word.number + bits.trailing_zeros() as usize
+    }
+
+    /// The child that sends the next vertex to `image`.
+    #[inline(always)]
+    pub(crate) fn child(&mut self, image: usize) -> MapNode
+        requires count { length self.old.parent < 64 }
+        requires image { image < 1024 }
+        ensures child { result ≡ with_image self.old.parent image }
+        ensures same { self.new ≡ self.old }
+    {
+        self.parent.child(image)
     }
 }

@@ -55,9 +55,10 @@ impl Problem for Subgraph {
         if kids.word().bits == 0 {
             return Ok(None);
         }
-        let child = kids.take();
+        let image = kids.take();
         self.fill(kids);
-        Ok(Some(child))
+        // The child is made last, so that it is copied once.
+        Ok(Some(kids.child(image)))
     }
 
     #[inline(always)]
