@@ -16,7 +16,7 @@ use crate::graph::Graph;
 use crate::nodes::{MapKids, MapNode, VertexWord};
 use crate::order::order_of;
 use crate::profiles::{Profile, profiles};
-use crate::tables::{aims, joined, partners, predecessors, rooms, sources};
+use crate::tables::{aims, has_one_way, joined, partners, predecessors, rooms, sources};
 use std::alloc::Global;
 use std::marker::Model;
 use yew_laws::Memory;
@@ -40,6 +40,8 @@ pub struct Subgraph {
     aims: BitTable,
     /// For each place, the earlier places with arcs to its vertex and back.
     partners: BitTable,
+    /// Whether some arc of the pattern has none back. Where it is false, no place has sources or aims.
+    one_way: bool,
 }
 
 impl Model for Subgraph {
@@ -50,7 +52,7 @@ impl Model for Subgraph {
 
     ghost view = { λ a. record { pattern = a.pattern; target = a.target } };
 
-    ghost invariant = { λ a. AreTables (record { pattern = a.pattern; target = a.target }) a.order.items a.rooms a.predecessors a.joined a.sources a.aims a.partners };
+    ghost invariant = { λ a. AreTables (record { pattern = a.pattern; target = a.target }) a.order.items a.rooms a.predecessors a.joined a.sources a.aims a.partners a.one_way };
 }
 
 /// The problem of a pattern of at most 64 vertices and a target of at most 1,024.
@@ -69,6 +71,7 @@ pub fn pair(alloc: Global, pattern: Graph, target: Graph) -> Result<Subgraph, Me
     let sources = sources(alloc, &pattern, order.as_slice())?;
     let aims = aims(alloc, &pattern, order.as_slice())?;
     let partners = partners(alloc, &pattern, order.as_slice())?;
+    let one_way = has_one_way(&pattern);
     Ok(Subgraph {
         pattern,
         target,
@@ -79,6 +82,7 @@ pub fn pair(alloc: Global, pattern: Graph, target: Graph) -> Result<Subgraph, Me
         sources,
         aims,
         partners,
+        one_way,
     })
 }
 
@@ -142,8 +146,12 @@ impl Subgraph {
         let free = self.rooms.word(place, number) & unused[number];
         let both = self.partners.only_word(place) & mapped;
         let joined = keep_images(&self.joined, node, both, number, free);
+        let successors = self.target.arcs();
+        if !self.one_way {
+            return joined;
+        }
         let from = self.sources.only_word(place) & mapped;
-        let kept = keep_images(self.target.arcs(), node, from, number, joined);
+        let kept = keep_images(successors, node, from, number, joined);
         let to = self.aims.only_word(place) & mapped;
         keep_images(&self.predecessors, node, to, number, kept)
     }
