@@ -29,16 +29,6 @@ filter-none p low (suc n) h =
     let rest = filter-none p (low + 1) n (λ x a b. h x (omega arith) (omega arith)) in
     ap₂ (λ b xs. cond b (low ∷ xs) xs) (h low (omega arith) (omega arith)) rest
 
--- a longer range in which no further number passes
-pub filter-longer : (p : ℕ → Bool) (low n m : ℕ) → ((x : ℕ) → low + n ≤ x → p x ≡ false) → filter p (range_with_len low (n + m)) ≡ filter p (range_with_len low n)
-filter-longer p low zero m h =
-    let same : 0 + m ≡ m = omega arith in
-    ap (λ k. filter p (range_with_len low k)) same ∙ filter-none p low m (λ x a b. h x (omega arith))
-filter-longer p low (suc n) m h =
-    let same : suc n + m ≡ suc (n + m) = omega arith in
-    ap (λ k. filter p (range_with_len low k)) same
-    ∙ ap (λ xs. cond (p low) (low ∷ xs) xs) (filter-longer p (low + 1) n m (λ x a. h x (omega arith)))
-
 -- what passes of a range in two parts
 pub filter-parts : (p : ℕ → Bool) (low n m : ℕ) → filter p (range_with_len low (n + m)) ≡ filter p (range_with_len low n) ++ filter p (range_with_len (low + n) m)
 filter-parts p low zero m =
@@ -128,17 +118,9 @@ contains-after p low (suc n) x a =
 
 -- one number more of a range
 pub filter-more : (p : ℕ → Bool) (low n : ℕ) → filter p (range_with_len low (suc n)) ≡ filter p (range_with_len low n) ++ cond (p (low + n)) ((low + n) ∷ []) []
-filter-more p low zero =
-    let here : low + 0 ≡ low = omega arith in
-    ap (λ k. cond (p k) (k ∷ []) []) (sym here)
-filter-more p low (suc n) =
-    let next : low + 1 + n ≡ low + suc n = omega arith in
-    ap (λ xs. cond (p low) (low ∷ xs) xs) (filter-more p (low + 1) n ∙ ap (λ k. filter p (range_with_len (low + 1) n) ++ cond (p k) (k ∷ []) []) next)
-    ∙ push (p low) (filter p (range_with_len (low + 1) n)) (cond (p (low + suc n)) ((low + suc n) ∷ []) [])
-  where
-    push : (b : Bool) (xs ys : List ℕ) → cond b (low ∷ (xs ++ ys)) (xs ++ ys) ≡ cond b (low ∷ xs) xs ++ ys
-    push true xs ys = refl
-    push false xs ys = refl
+filter-more p low n =
+    let next : suc n ≡ n + 1 = omega arith in
+    ap (λ k. filter p (range_with_len low k)) next ∙ filter-parts p low n 1
 
 -- how many pass of one number more
 pub count-more : (p : ℕ → Bool) (n : ℕ) → length (filter p (range_with_len 0 (n + 1))) ≡ length (filter p (range_with_len 0 n)) + cond (p n) 1 0

@@ -1,5 +1,5 @@
 -- Sets of vertices as lists of words.
-use Rattle.std.proofs.Common.{◌≡◌, ◌≢◌, ℕ, ◌+◌, ◌*◌, ◌/◌, ◌%◌, ◌^◌, ◌<◌, ◌≤◌, Bool, not, ◌&&◌, ◌||◌, ◌==◌, List, [], length, set, take, subst, slice_index, replicate, bit_and, refl, ap, sym, ◌∙◌, inl, inr, arith, get_or-set_same, get_or-set_other}
+use Rattle.std.proofs.Common.{◌≡◌, ◌≢◌, ℕ, ◌+◌, ◌*◌, ◌/◌, ◌%◌, ◌^◌, ◌<◌, ◌≤◌, Bool, not, ◌&&◌, ◌||◌, ◌==◌, List, [], length, set, take, subst, slice_index, replicate, bit_and, ap, sym, ◌∙◌, inl, inr, arith, get_or-set_same, get_or-set_other}
 use Rattle.std.specs.Int.{bit_at, bit_not, w64}
 use Rattle.std.proofs.lemmas.Bool.{cases_eq}
 use Rattle.std.proofs.lemmas.Bool.Decides.{nat_tests}
@@ -21,11 +21,6 @@ word_bits words number k small =
     let place : k ≡ (64 * number + k) % 64 = omega arith in
     ap (λ i. bit_at (slice_index words i) k == 1) word
     ∙ ap (λ j. bit_at (slice_index words ((64 * number + k) / 64)) j == 1) place
-
--- a member by its word
-member-word : (words : List ℕ) (v : ℕ) → has_bit words v ≡ (bit_at (slice_index words (v / 64)) (v % 64) == 1)
-unfolding has_bit
-member-word words v = refl
 
 module _ (words : List ℕ) (v : ℕ) (within : v / 64 < length words) where
   abbrev word : ℕ
