@@ -5,7 +5,7 @@ use Rattle.std.specs.List.{AllByRecursion, filter, list_all, range_with_len}
 use Rattle.std.proofs.Math.Nat.{mod-eq_of_lt}
 use Rattle.std.proofs.Math.Pow.{pow-lt}
 use Rattle.std.proofs.lemmas.Bool.{cases_lt, lt-ltb, le-ltb}
-use Rattle.std.proofs.lemmas.Nat.Bits.{bit_at_and, bit_at_ones, bit_at_ones_above}
+use Rattle.std.proofs.lemmas.Nat.Bits.{bit_at-zero, bit_at_and, bit_at_ones, bit_at_ones_above}
 use Rattle.yew_laws.specs.Sets.{contains}
 use Rattle.yew_lad.specs.Bits.{BitTable, in_row, AreBits}
 use Rattle.yew_lad.specs.Candidates.{ArePlaces, places_in}
@@ -14,7 +14,7 @@ use Rattle.yew_lad.specs.Nodes.{vertex_at, has_room, keeps_all, is_candidate, wi
 use Rattle.yew_lad.specs.SearchedOrder.{profile_of}
 use Rattle.yew_lad.specs.Tables.{HasTest}
 use Rattle.yew_lad.proofs.Orders.{each-at}
-use Rattle.yew_lad.proofs.PlaceLaws.{bits_both}
+use Rattle.yew_lad.proofs.PlaceLaws.{bits_both, places-none}
 
 -- the images of a node are vertices of the target
 images-below-from : (pair : GraphPair) (before images : List ℕ) → AreNext pair before images → AllByRecursion (λ t. t < vertex_count pair.target) images
@@ -143,6 +143,24 @@ module _ (pair : GraphPair) (images : List ℕ) (sound : IsNode pair images) (pl
                 let none = bit_at_ones_above count q more in
                 absurd (omega (arith, both, none, e))
           ]
+
+  -- no place has an arc of a kind that the pattern lacks
+  pub no-places : (arc : ℕ → Bool) → ((q : ℕ) → q < count → arc q ≡ false) → (q : ℕ) → q < 64 → (bit_at 0 q == 1) ≡ (nat_lt q count && arc q)
+  no-places arc none q l =
+      ap (λ n. n == 1) (bit_at-zero q)
+      ∙ sym (elim (cases_lt q count) [
+        | inl less ↦ ap (λ b. nat_lt q count && b) (none q less) ∙ neither (nat_lt q count)
+        | inr more ↦ ap (λ b. b && arc q) (le-ltb q count more)
+      ])
+    where
+      neither : (b : Bool) → (b && false) ≡ false
+      neither b = grind arith
+
+  pub all-of_none : (b : Bool) (f : ℕ → Bool) → b ≡ (b && list_all f (places_in 0))
+  all-of_none b f = all b ∙ ap (λ ps. b && list_all f ps) (sym (places-none 0 refl))
+    where
+      all : (b : Bool) → b ≡ (b && true)
+      all b = grind arith
 
   module _ (t : ℕ) where
     abbrev arcs_in : ℕ → Bool

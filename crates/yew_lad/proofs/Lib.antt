@@ -5,6 +5,7 @@ pub mod Chosen
 mod FileGrammar
 mod FileReader
 mod FileSteps
+mod KidLaws
 pub mod MapTree
 mod NextLaws
 mod OrderIs

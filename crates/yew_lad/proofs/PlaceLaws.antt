@@ -31,7 +31,7 @@ bits_both a b k =
     joined m n l r = grind (arith, nat_tests, l, r)
 
 module _ (left : ℕ) (some : left ≢ 0) (fits : left < 2 ^ 64) where
-  low : (lowest_of left < 64) × (bit_at left (lowest_of left) ≡ 1) × ((i : ℕ) → i < lowest_of left → bit_at left i ≡ 0)
+  pub low : (lowest_of left < 64) × (bit_at left (lowest_of left) ≡ 1) × ((i : ℕ) → i < lowest_of left → bit_at left i ≡ 0)
   low = bit_at-trailing_zeros w64 left (omega arith) fits
 
   pub lowest-small : lowest_of left < 64
@@ -66,13 +66,13 @@ module _ (left : ℕ) (some : left ≢ 0) (fits : left < 2 ^ 64) where
   less-one : high * 2 ^ (k + 1) + (2 ^ k - 1) ≡ left - 1
   less-one = let is = whole in let some = pow_pos k in omega (arith, is, some)
 
-  gone : bit_at (after_of left) k ≡ 0
+  pub gone : bit_at (after_of left) k ≡ 0
   gone =
       let both = bit_at_and left (left - 1) k in
       let none : bit_at (left - 1) k ≡ 0 = ap (λ n. bit_at n k) (sym less-one) ∙ bit_at_cat_low high (k + 1) (2 ^ k - 1) k (omega arith) ∙ bit_at_ones_above k k (omega arith) in
       omega (arith, both, none)
 
-  kept : (x : ℕ) → x < 64 → x ≢ k → bit_at (after_of left) x ≡ bit_at left x
+  pub kept : (x : ℕ) → x < 64 → x ≢ k → bit_at (after_of left) x ≡ bit_at left x
   kept x l other =
       let both = bit_at_and left (left - 1) x in
       elim (cases_lt x k) [
@@ -89,8 +89,8 @@ module _ (left : ℕ) (some : left ≢ 0) (fits : left < 2 ^ 64) where
   pub places-pop : places_in left ≡ lowest_of left ∷ places_in (after_of left)
   places-pop =
       filter-pop (λ place. bit_at left place == 1) (λ place. bit_at (after_of left) place == 1) 0 64 (lowest_of left) (omega arith) (omega (arith, low.0))
-      (λ x l other. ap (λ n. n == 1) (sym (kept x (omega arith) other)))
-      (ap (λ n. n == 1) low.1) (ap (λ n. n == 1) gone) (λ x l. ap (λ n. n == 1) (low.2 x l))
+      (λ x a l other. ap (λ n. n == 1) (sym (kept x (omega arith) other)))
+      (ap (λ n. n == 1) low.1) (ap (λ n. n == 1) gone) (λ x a l. ap (λ n. n == 1) (low.2 x l))
 
   pub after-less : after_of left < left
   after-less =

@@ -29,32 +29,39 @@ filter-none p low (suc n) h =
     let rest = filter-none p (low + 1) n (λ x a b. h x (omega arith) (omega arith)) in
     ap₂ (λ b xs. cond b (low ∷ xs) xs) (h low (omega arith) (omega arith)) rest
 
--- a longer range in which no further number passes
-pub filter-longer : (p : ℕ → Bool) (low n m : ℕ) → ((x : ℕ) → low + n ≤ x → p x ≡ false) → filter p (range_with_len low (n + m)) ≡ filter p (range_with_len low n)
-filter-longer p low zero m h =
+-- what passes of a range in two parts
+pub filter-parts : (p : ℕ → Bool) (low n m : ℕ) → filter p (range_with_len low (n + m)) ≡ filter p (range_with_len low n) ++ filter p (range_with_len (low + n) m)
+filter-parts p low zero m =
     let same : 0 + m ≡ m = omega arith in
-    ap (λ k. filter p (range_with_len low k)) same ∙ filter-none p low m (λ x a b. h x (omega arith))
-filter-longer p low (suc n) m h =
+    let here : low ≡ low + 0 = omega arith in
+    ap₂ (λ a k. filter p (range_with_len a k)) here same
+filter-parts p low (suc n) m =
     let same : suc n + m ≡ suc (n + m) = omega arith in
+    let next : low + 1 + n ≡ low + suc n = omega arith in
     ap (λ k. filter p (range_with_len low k)) same
-    ∙ ap (λ xs. cond (p low) (low ∷ xs) xs) (filter-longer p (low + 1) n m (λ x a. h x (omega arith)))
+    ∙ ap (λ xs. cond (p low) (low ∷ xs) xs) (filter-parts p (low + 1) n m ∙ ap (λ a. filter p (range_with_len (low + 1) n) ++ filter p (range_with_len a m)) next)
+    ∙ push (p low) (filter p (range_with_len (low + 1) n)) (filter p (range_with_len (low + suc n) m))
+  where
+    push : (b : Bool) (xs ys : List ℕ) → cond b (low ∷ (xs ++ ys)) (xs ++ ys) ≡ cond b (low ∷ xs) xs ++ ys
+    push true xs ys = refl
+    push false xs ys = refl
 
 -- the first number taken off
-pub filter-pop : (p q : ℕ → Bool) (low n g : ℕ) → low ≤ g → g < low + n → ((x : ℕ) → x < low + n → x ≢ g → p x ≡ q x) → p g ≡ true → q g ≡ false → ((x : ℕ) → x < g → p x ≡ false) → filter p (range_with_len low n) ≡ g ∷ filter q (range_with_len low n)
+pub filter-pop : (p q : ℕ → Bool) (low n g : ℕ) → low ≤ g → g < low + n → ((x : ℕ) → low ≤ x → x < low + n → x ≢ g → p x ≡ q x) → p g ≡ true → q g ≡ false → ((x : ℕ) → low ≤ x → x < g → p x ≡ false) → filter p (range_with_len low n) ≡ g ∷ filter q (range_with_len low n)
 filter-pop p q low zero g a b same old new first = absurd (omega arith)
 filter-pop p q low (suc n) g a b same old new first =
     elim (low == g) as (λ v. (low == g) ≡ v → filter p (range_with_len low (suc n)) ≡ g ∷ filter q (range_with_len low (suc n))) [
       | true ↦ λ e.
           let here : low ≡ g = grind (arith, nat_tests) in
-          let rest = filter-agree p q (low + 1) n (λ x c d. same x (omega arith) (omega arith)) in
+          let rest = filter-agree p q (low + 1) n (λ x c d. same x (omega arith) (omega arith) (omega arith)) in
           ap₂ (λ v xs. cond v (low ∷ xs) xs) (ap p here ∙ old) rest
           ∙ ap₂ (λ x xs. x ∷ xs) here (sym (ap (λ v. cond v (low ∷ filter q (range_with_len (low + 1) n)) (filter q (range_with_len (low + 1) n))) (ap q here ∙ new)))
       | false ↦ λ e.
           let other : low ≢ g = grind (arith, nat_tests) in
-          let rest = filter-pop p q (low + 1) n g (omega arith) (omega arith) (λ x c other'. same x (omega arith) other') old new first in
-          let none = first low (omega arith) in
+          let rest = filter-pop p q (low + 1) n g (omega arith) (omega arith) (λ x a b other'. same x (omega arith) (omega arith) other') old new (λ x a b. first x (omega arith) b) in
+          let none = first low (omega arith) (omega arith) in
           ap₂ (λ v xs. cond v (low ∷ xs) xs) none rest
-          ∙ ap (λ xs. g ∷ xs) (sym (ap (λ v. cond v (low ∷ filter q (range_with_len (low + 1) n)) (filter q (range_with_len (low + 1) n))) (sym (same low (omega arith) other) ∙ none)))
+          ∙ ap (λ xs. g ∷ xs) (sym (ap (λ v. cond v (low ∷ filter q (range_with_len (low + 1) n)) (filter q (range_with_len (low + 1) n))) (sym (same low (omega arith) (omega arith) other) ∙ none)))
     ]
     refl
 
@@ -111,17 +118,9 @@ contains-after p low (suc n) x a =
 
 -- one number more of a range
 pub filter-more : (p : ℕ → Bool) (low n : ℕ) → filter p (range_with_len low (suc n)) ≡ filter p (range_with_len low n) ++ cond (p (low + n)) ((low + n) ∷ []) []
-filter-more p low zero =
-    let here : low + 0 ≡ low = omega arith in
-    ap (λ k. cond (p k) (k ∷ []) []) (sym here)
-filter-more p low (suc n) =
-    let next : low + 1 + n ≡ low + suc n = omega arith in
-    ap (λ xs. cond (p low) (low ∷ xs) xs) (filter-more p (low + 1) n ∙ ap (λ k. filter p (range_with_len (low + 1) n) ++ cond (p k) (k ∷ []) []) next)
-    ∙ push (p low) (filter p (range_with_len (low + 1) n)) (cond (p (low + suc n)) ((low + suc n) ∷ []) [])
-  where
-    push : (b : Bool) (xs ys : List ℕ) → cond b (low ∷ (xs ++ ys)) (xs ++ ys) ≡ cond b (low ∷ xs) xs ++ ys
-    push true xs ys = refl
-    push false xs ys = refl
+filter-more p low n =
+    let next : suc n ≡ n + 1 = omega arith in
+    ap (λ k. filter p (range_with_len low k)) next ∙ filter-parts p low n 1
 
 -- how many pass of one number more
 pub count-more : (p : ℕ → Bool) (n : ℕ) → length (filter p (range_with_len 0 (n + 1))) ≡ length (filter p (range_with_len 0 n)) + cond (p n) 1 0

@@ -1,18 +1,17 @@
 -- Sets of vertices as lists of words.
-use Rattle.std.proofs.Common.{◌≡◌, ◌≢◌, ℕ, ◌+◌, ◌*◌, ◌/◌, ◌%◌, ◌^◌, ◌<◌, ◌≤◌, Bool, true, false, not, ◌&&◌, ◌||◌, ◌==◌, List, [], ◌∷◌, length, set, take, subst, slice_index, replicate, bit_and, map, refl, ap, sym, ◌∙◌, inl, inr, arith, get_or-set_same, get_or-set_other}
-use Rattle.std.specs.Int.{bit_at, bit_not, trailing_zeros, w64}
+use Rattle.std.proofs.Common.{◌≡◌, ◌≢◌, ℕ, ◌+◌, ◌*◌, ◌/◌, ◌%◌, ◌^◌, ◌<◌, ◌≤◌, Bool, not, ◌&&◌, ◌||◌, ◌==◌, List, [], length, set, take, subst, slice_index, replicate, bit_and, ap, sym, ◌∙◌, inl, inr, arith, get_or-set_same, get_or-set_other}
+use Rattle.std.specs.Int.{bit_at, bit_not, w64}
 use Rattle.std.proofs.lemmas.Bool.{cases_eq}
 use Rattle.std.proofs.lemmas.Bool.Decides.{nat_tests}
 use Rattle.std.proofs.lemmas.List.{get_or-replicate, get_or-take, length-take, take_more}
 use Rattle.std.specs.List.{AllByRecursion}
-use Rattle.std.proofs.lemmas.Nat.Bits.{bit_at-zero, bit_at_ones, bit_at-trailing_zeros, bit_at_clear_same, bit_at_clear_other}
+use Rattle.std.proofs.lemmas.Nat.Bits.{bit_at_ones, bit_at_clear_same, bit_at_clear_other}
 use Rattle.yew_laws.specs.Sets.{contains}
 use Rattle.yew_lad.specs.Bits.{has_bit, AreBits}
 use Rattle.yew_lad.specs.Lists.{contains-push}
 use Rattle.yew_lad.specs.Nodes.{with_image}
-use Rattle.yew_lad.specs.NodeWords.{AreUnused, IsLowest, all_with}
+use Rattle.yew_lad.specs.NodeWords.{AreUnused}
 use Rattle.yew_lad.proofs.Orders.{each-at}
-use Rattle.yew_lad.proofs.Ranges.{filter-none, filter-pop}
 
 -- the bits of a word of a set
 pub word_bits : (words : List ℕ) (number : ℕ) → AreBits (slice_index words number) (λ k. has_bit words (64 * number + k))
@@ -22,11 +21,6 @@ word_bits words number k small =
     let place : k ≡ (64 * number + k) % 64 = omega arith in
     ap (λ i. bit_at (slice_index words i) k == 1) word
     ∙ ap (λ j. bit_at (slice_index words ((64 * number + k) / 64)) j == 1) place
-
--- a member by its word
-member-word : (words : List ℕ) (v : ℕ) → has_bit words v ≡ (bit_at (slice_index words (v / 64)) (v % 64) == 1)
-unfolding has_bit
-member-word words v = refl
 
 module _ (words : List ℕ) (v : ℕ) (within : v / 64 < length words) where
   abbrev word : ℕ
@@ -89,71 +83,3 @@ unused-more images words count place l fits size small unused =
     let below : t < 1024 = subst (λ n. n < 1024) (get_or-take count images place 0 l) (each-at (λ n. n < 1024) (take count images) place 0 small (omega (arith, taken, fits, l))) in
     subst (λ xs. AreUnused xs (set words (t / 64) (bit_and (slice_index words (t / 64)) (bit_not w64 (1 * 2 ^ (t % 64) % 2 ^ 64))))) (sym (take_more images place 0 (omega arith)))
     (unused-without (take place images) words t size below unused)
-
--- no member is in a word that is 0
-pub none_more : (words : List ℕ) (number : ℕ) → ((v : ℕ) → v < 64 * number → has_bit words v ≡ false) → slice_index words number ≡ 0 → (v : ℕ) → v < 64 * (number + 1) → has_bit words v ≡ false
-none_more words number before empty v l =
-    elim (cases_eq (v / 64) number) [
-      | inl same ↦ member-word words v ∙ ap (λ i. bit_at (slice_index words i) (v % 64) == 1) same ∙ ap (λ w. bit_at w (v % 64) == 1) empty ∙ ap (λ b. b == 1) (bit_at-zero (v % 64))
-      | inr other ↦ before v (omega arith)
-    ]
-
--- the least member is that of the first word that is not 0
-pub least-member : (words : List ℕ) (number word : ℕ) → ((v : ℕ) → v < 64 * number → has_bit words v ≡ false) → number < 16 → word ≡ slice_index words number → word ≢ 0 → word < 2 ^ 64 → IsLowest words (64 * number + trailing_zeros w64 word)
-least-member words number word before within is some fits =
-    let low = bit_at-trailing_zeros w64 word (omega arith) fits in
-    let place = trailing_zeros w64 word in
-    let bits = word_bits words number in
-    let small : place < 64 = low.0 in
-    record {
-      below = omega arith;
-      member = sym (bits place small) ∙ ap (λ w. bit_at w place == 1) (sym is) ∙ ap (λ b. b == 1) low.1;
-      least = λ u l.
-          elim (cases_eq (u / 64) number) [
-            | inl same ↦
-                let lower : u % 64 < place = omega arith in
-                member-word words u ∙ ap (λ i. bit_at (slice_index words i) (u % 64) == 1) same ∙ ap (λ w. bit_at w (u % 64) == 1) (sym is) ∙ ap (λ b. b == 1) (low.2 (u % 64) lower)
-            | inr other ↦ before u (omega arith)
-          ];
-    }
-
--- ---- the children that are left
-
--- no member, no child
-pub none_with : (images words : List ℕ) → ((v : ℕ) → v < 1024 → has_bit words v ≡ false) → all_with images words ≡ []
-none_with images words none = ap (map (with_image images)) (filter-none (has_bit words) 0 1024 (λ v a b. none v (omega arith)))
-
-module _ (images words : List ℕ) (v : ℕ) (size : length words ≡ 16) (lowest : IsLowest words v) where
-  pub word_within : v / 64 < length words
-  word_within = let l = lowest.below in omega arith
-
-  -- the first child goes to the least member
-  pub first_with : all_with images words ≡ with_image images v ∷ all_with images (without_bit words v word_within)
-  first_with =
-      ap (map (with_image images))
-      (filter-pop (has_bit words) (has_bit (without_bit words v word_within)) 0 1024 v (omega arith) (let l = lowest.below in omega arith)
-      (λ t l other. kept (has_bit words t) (v == t) (apart t other) ∙ sym (bit-cleared words v word_within t))
-      lowest.member
-      (bit-cleared words v word_within v ∙ gone (has_bit words v) (v == v) (itself v))
-      lowest.least)
-    where
-      kept : (a b : Bool) → b ≡ false → a ≡ (a && not b)
-      kept a b e = grind (arith, e)
-
-      gone : (a b : Bool) → b ≡ true → (a && not b) ≡ false
-      gone a b e = grind (arith, e)
-
-      apart : (t : ℕ) → t ≢ v → (v == t) ≡ false
-      apart t other = grind (arith, nat_tests, other)
-
-      itself : (k : ℕ) → (k == k) ≡ true
-      itself k = grind (arith, nat_tests)
-
-  -- and no earlier word has a member afterwards
-  pub none_earlier : (u : ℕ) → u < 64 * (v / 64) → has_bit (without_bit words v word_within) u ≡ false
-  none_earlier u l =
-      bit-cleared words v word_within u ∙ ap (λ b. b && not (v == u)) (lowest.least u (omega arith))
-
-  -- what was no member is none afterwards
-  pub none_left : (u : ℕ) → has_bit words u ≡ false → has_bit (without_bit words v word_within) u ≡ false
-  none_left u e = bit-cleared words v word_within u ∙ ap (λ b. b && not (v == u)) e

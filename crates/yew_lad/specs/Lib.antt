@@ -3,6 +3,7 @@ pub mod Bits
 pub mod Candidates
 pub mod Digraphs
 pub mod Files
+pub mod Kids
 pub mod Lists
 pub mod Maps
 pub mod NodeLaws

@@ -1,5 +1,5 @@
 -- What a problem keeps beside its graphs: tables of bits, each a test of two numbers.
-use Rattle.std.specs.Prelude.{◌≡◌, ℕ, ◌+◌, ◌*◌, ◌/◌, ◌<◌, Bool, false, not, ◌&&◌, ◌||◌, ◌==◌, List, length, slice_index_or, nat_lt}
+use Rattle.std.specs.Prelude.{◌≡◌, ℕ, ◌+◌, ◌*◌, ◌/◌, ◌<◌, Bool, true, false, not, ◌&&◌, ◌||◌, ◌==◌, List, length, slice_index_or, nat_lt}
 use Rattle.yew_lad.specs.declared.profiles.Profile.{Profile}
 use Rattle.yew_lad.specs.Bits.{BitTable, in_row}
 use Rattle.yew_lad.specs.Digraphs.{Digraph, GraphPair, IsWithinLimits, vertex_count, is_arc}
@@ -42,6 +42,18 @@ are_joined graph u v = is_arc graph u v && is_arc graph v u
 abbrev pub is_one_way : Digraph → ℕ → ℕ → Bool
 is_one_way graph u v = is_arc graph u v && not (is_arc graph v u)
 
+-- some arc has none back
+pub record HasOneWay (graph : Digraph) : Type 0 where
+  pub from : ℕ
+  pub to : ℕ
+  pub from_within : from < vertex_count graph
+  pub to_within : to < vertex_count graph
+  pub is : is_one_way graph from to ≡ true
+
+-- each arc has one back
+abbrev pub IsTwoWay : Digraph → Type 0
+IsTwoWay graph = (u v : ℕ) → u < vertex_count graph → v < vertex_count graph → is_one_way graph u v ≡ false
+
 -- there are arcs from v to t and back
 abbrev pub is_joined : Digraph → ℕ → ℕ → Bool
 is_joined graph v t = nat_lt t (vertex_count graph) && are_joined graph v t
@@ -62,8 +74,9 @@ abbrev pub words_for : ℕ → ℕ
 words_for n = (n + 63) / 64
 
 -- The tables of a pair of graphs: which target vertices have room for the pattern's; the target's arcs turned round, and
--- those that go both ways; and the earlier places with an arc to a place alone, from it alone, and with both.
-pub record AreTables (pair : GraphPair) (order : List Profile) (room_table predecessor_table joined_table source_table aim_table partner_table : BitTable) : Type 0 where
+-- those that go both ways; and the earlier places with an arc to a place alone, from it alone, and with both. Beside them
+-- stands whether some arc of the pattern may have none back.
+pub record AreTables (pair : GraphPair) (order : List Profile) (room_table predecessor_table joined_table source_table aim_table partner_table : BitTable) (one_way : Bool) : Type 0 where
   pub limits : IsWithinLimits pair
   pub order_is : order ≡ searched_profiles pair.pattern
   pub rooms : HasTest (vertex_count pair.pattern) (words_for (vertex_count pair.target)) (λ place t. nat_lt t (vertex_count pair.target) && has_room (profile_of pair.pattern (vertex_at pair place)) (profile_of pair.target t)) room_table
@@ -72,6 +85,7 @@ pub record AreTables (pair : GraphPair) (order : List Profile) (room_table prede
   pub sources : HasTest (vertex_count pair.pattern) 1 (λ place earlier. nat_lt earlier place && is_one_way pair.pattern (vertex_at pair earlier) (vertex_at pair place)) source_table
   pub aims : HasTest (vertex_count pair.pattern) 1 (λ place earlier. nat_lt earlier place && is_one_way pair.pattern (vertex_at pair place) (vertex_at pair earlier)) aim_table
   pub partners : HasTest (vertex_count pair.pattern) 1 (λ place earlier. nat_lt earlier place && are_joined pair.pattern (vertex_at pair earlier) (vertex_at pair place)) partner_table
+  pub two_way : one_way ≡ false → IsTwoWay pair.pattern
 
 -- the table has the arcs of a graph
 pub record HasArcs (graph : Digraph) (table : BitTable) : Type 0 where

@@ -1,10 +1,9 @@
 //! The nodes of the tree of partial maps.
 
-ghost use Rattle.std.specs.Prelude.{◌≡◌, ◌+◌, ◌*◌, ◌<◌, ◌≤◌, ◌≢◌, ℕ, List, [], ◌∷◌, ◌++◌, false, length, slice_index, MatchOption};
-ghost use Rattle.std.specs.List.{AllByRecursion};
-ghost use Rattle.yew_lad.specs.Bits.{has_bit};
+ghost use Rattle.std.specs.Prelude.{◌≡◌, ◌<◌, ◌≤◌, ◌≢◌, [], length, slice_index};
+ghost use Rattle.yew_lad.specs.Kids.{Takes};
 ghost use Rattle.yew_lad.specs.Nodes.{with_image};
-ghost use Rattle.yew_lad.specs.NodeWords.{AreUnused, IsLowest, IsShort, all_with};
+ghost use Rattle.yew_lad.specs.NodeWords.{AreUnused};
 
 use std::marker::Model;
 
@@ -87,76 +86,89 @@ impl MapNode {
     }
 }
 
-/// The least member of a set of vertices whose words before `first` are empty, and those from `end` on.
-fn lowest(words: &[u64; 16], first: usize, end: usize) -> Option<usize>
-    requires first { (v : ℕ) → v < 64 * first → has_bit words.now v ≡ false }
-    requires end { (v : ℕ) → 64 * end ≤ v → v < 1024 → has_bit words.now v ≡ false }
-    requires within { end ≤ 16 }
-    ensures { MatchOption result ((v : ℕ) → v < 1024 → has_bit words.now v ≡ false) (IsLowest words.now) }
-{
-    for number in first..end {
-        let word = words[number];
-        if word != 0 {
-            return Some(64 * number + word.trailing_zeros() as usize);
-        }
-    }
-    None
+/// A word of a set of target vertices: bit k says whether vertex 64 * `number` + k is in the set.
+#[derive(Clone, Copy)]
+pub(crate) struct VertexWord {
+    pub(crate) number: usize,
+    pub(crate) bits: u64,
 }
 
-/// The children of a partial map that were not given yet: the candidates for the next vertex that are left.
+/// The children of a partial map that were not given yet. They send the next vertex to the members of a word, and after
+/// these to the candidates past it, which are computed when they are reached. The word is empty only where none is left.
 #[derive(Drop)]
 pub struct MapKids {
     parent: MapNode,
-    /// Bit t % 64 of word t / 64 is set where vertex t of the target is still to be given.
-    left: [u64; 16],
-    /// No vertex is left in an earlier word.
-    first: usize,
-    /// No vertex is left in this word or a later one.
-    end: usize,
+    word: VertexWord,
 }
 
 impl Model for MapKids {
-    ghost use Rattle.std.specs.Prelude.{◌≡◌, ◌*◌, ◌<◌, ◌≤◌, List, ℕ, false};
-    ghost use Rattle.yew_lad.specs.Bits.{has_bit};
-    ghost use Rattle.yew_lad.specs.NodeWords.{all_with};
+    ghost use Rattle.std.specs.Prelude.{◌<◌};
+    ghost use Rattle.yew_lad.specs.Kids.{Kids};
 
-    ghost Value = { List (List ℕ) };
+    ghost Value = { Kids };
 
-    ghost view = { λ a. all_with a.parent a.left };
+    ghost view = { λ a. record { parent = a.parent; number = a.word.number; bits = a.word.bits } };
 
-    ghost invariant = { λ a. (a.end ≤ 16) × ((v : ℕ) → v < 64 * a.first → has_bit a.left v ≡ false) × ((v : ℕ) → 64 * a.end ≤ v → v < 1024 → has_bit a.left v ≡ false) };
+    ghost invariant = { λ a. a.word.number < 16 };
 }
 
 impl MapKids {
-    /// The children of a partial map that send the next vertex to the members of a set, whose words from `end` on are
-    /// empty.
+    /// The children of a partial map that send the next vertex to the members of a word and to the candidates past it.
     #[inline(always)]
-    pub(crate) fn new(parent: MapNode, left: [u64; 16], end: usize) -> MapKids
-        requires end { (v : ℕ) → 64 * end ≤ v → v < 1024 → has_bit left v ≡ false }
-        requires within { end ≤ 16 }
-        ensures { result ≡ all_with parent left }
+    pub(crate) fn new(parent: MapNode, word: VertexWord) -> MapKids
+        requires { word.number < 16 }
+        ensures { result ≡ record { parent = parent; number = word.number; bits = word.bits } }
     {
-        MapKids {
-            parent,
-            left,
-            first: 0,
-            end,
-        }
+        MapKids { parent, word }
     }
 
-    /// The next child, by rising image.
+    /// The partial map whose children these are.
     #[inline(always)]
-    pub(crate) fn take(&mut self) -> Option<MapNode>
-        requires { AllByRecursion IsShort self.old }
-        ensures { MatchOption result ((self.old ≡ []) × (self.new ≡ [])) (λ node. self.old ≡ node ∷ self.new) }
+    pub(crate) fn parent(&self) -> &MapNode
+        ensures { result.now ≡ self.now.parent }
     {
-        match lowest(&self.left, self.first, self.end) {
-            None => None,
-            Some(image) => {
-                self.left[image / 64] &= !(1 << (image % 64));
-                self.first = image / 64;
-                Some(self.parent.child(image))
-            }
-        }
+        &self.parent
+    }
+
+    /// The word from which the next child is taken.
+    #[inline(always)]
+    pub(crate) fn word(&self) -> VertexWord
+        ensures number { result.number ≡ self.now.number }
+        ensures bits { result.bits ≡ self.now.bits }
+        ensures small { result.number < 16 }
+    {
+        self.word
+    }
+
+    /// Goes on to another word.
+    #[inline(always)]
+    pub(crate) fn go_on(&mut self, word: VertexWord)
+        requires { word.number < 16 }
+        ensures { self.new ≡ record { parent = self.old.parent; number = word.number; bits = word.bits } }
+    {
+        self.word = word;
+    }
+
+    /// Takes the least vertex off the word.
+    #[inline(always)]
+    pub(crate) fn take(&mut self) -> usize
+        requires some { self.old.bits ≢ 0 }
+        ensures taken { Takes self.old result self.new }
+        ensures small { result < 1024 }
+    {
+        let bits = self.word.bits;
+        self.word.bits = bits & (bits - 1);
+        64 * self.word.number + bits.trailing_zeros() as usize
+    }
+
+    /// The child that sends the next vertex to `image`.
+    #[inline(always)]
+    pub(crate) fn child(&mut self, image: usize) -> MapNode
+        requires count { length self.old.parent < 64 }
+        requires image { image < 1024 }
+        ensures child { result ≡ with_image self.old.parent image }
+        ensures same { self.new ≡ self.old }
+    {
+        self.parent.child(image)
     }
 }

@@ -1,11 +1,12 @@
 //! The search of a map as a problem of tree search.
 
-use crate::nodes::{MapKids, MapNode};
+use crate::nodes::{MapKids, MapNode, VertexWord};
 use crate::subgraph::Subgraph;
 use std::alloc::Global;
 use yew_laws::{Memory, Problem};
 
 impl Problem for Subgraph {
+    ghost use Rattle.yew_lad.specs.Kids.{remaining_of};
     ghost use Rattle.yew_lad.specs.Nodes.{root_of, children_of, rank_of, worth_of, bound_of, IsNode};
     ghost use Rattle.yew_lad.specs.NodeLaws.{maps-ranked, maps-bounded, maps-countable, root_rank-small};
 
@@ -21,7 +22,7 @@ impl Problem for Subgraph {
 
     ghost sound = { λ pair images. IsNode pair images };
 
-    ghost remaining = { λ _ kids. kids };
+    ghost remaining = { λ pair kids. remaining_of pair kids };
 
     ghost worth = { λ pair images. worth_of pair images };
 
@@ -41,17 +42,23 @@ impl Problem for Subgraph {
 
     #[inline(always)]
     fn open(&self, _alloc: Global, node: MapNode) -> Result<MapKids, Memory> {
-        let left = if node.count() < self.places() {
-            self.next_candidates(&node)
+        let word = if node.count() < self.places() {
+            self.next_word(&node, 0)
         } else {
-            [0; 16]
+            VertexWord { number: 0, bits: 0 }
         };
-        Ok(MapKids::new(node, left, self.width()))
+        Ok(MapKids::new(node, word))
     }
 
     #[inline(always)]
     fn next(&self, _alloc: Global, kids: &mut MapKids) -> Result<Option<MapNode>, Memory> {
-        Ok(kids.take())
+        if kids.word().bits == 0 {
+            return Ok(None);
+        }
+        let image = kids.take();
+        self.fill(kids);
+        // The child is made last, so that it is copied once.
+        Ok(Some(kids.child(image)))
     }
 
     #[inline(always)]

@@ -1,21 +1,22 @@
 //! A pattern and a target, with what the search of a map needs.
 
-ghost use Rattle.std.specs.Prelude.{◌≡◌, ◌+◌, ◌*◌, ◌<◌, ◌≤◌, ℕ, ◌&&◌, ◌==◌, length, slice_index, nat_lt, IfOk};
+ghost use Rattle.std.specs.Prelude.{◌≡◌, ◌+◌, ◌*◌, ◌<◌, ◌≤◌, ℕ, ◌&&◌, ◌==◌, ◌++◌, length, slice_index, nat_lt, IfOk};
 ghost use Rattle.std.specs.Int.{bit_at};
 ghost use Rattle.std.specs.List.{list_all};
 ghost use Rattle.yew_lad.specs.Bits.{AreBits, in_row};
-ghost use Rattle.yew_lad.specs.Candidates.{ArePlaces, places_in, AreCandidateWords};
+ghost use Rattle.yew_lad.specs.Candidates.{ArePlaces, places_in};
 ghost use Rattle.yew_lad.specs.Digraphs.{GraphPair, vertex_count};
+ghost use Rattle.yew_lad.specs.Kids.{in_word, candidates_from, left_from, kids_of};
 ghost use Rattle.yew_lad.specs.Nodes.{vertex_at, is_candidate, has_candidate, root_of, IsNode};
 ghost use Rattle.yew_lad.specs.NodeWords.{AreUnused};
 ghost use Rattle.yew_lad.specs.Tables.{words_for};
 
 use crate::bits::BitTable;
 use crate::graph::Graph;
-use crate::nodes::MapNode;
+use crate::nodes::{MapKids, MapNode, VertexWord};
 use crate::order::order_of;
 use crate::profiles::{Profile, profiles};
-use crate::tables::{aims, joined, partners, predecessors, rooms, sources};
+use crate::tables::{aims, has_one_way, joined, partners, predecessors, rooms, sources};
 use std::alloc::Global;
 use std::marker::Model;
 use yew_laws::Memory;
@@ -39,6 +40,8 @@ pub struct Subgraph {
     aims: BitTable,
     /// For each place, the earlier places with arcs to its vertex and back.
     partners: BitTable,
+    /// Whether some arc of the pattern has none back. Where it is false, no place has sources or aims.
+    one_way: bool,
 }
 
 impl Model for Subgraph {
@@ -49,7 +52,7 @@ impl Model for Subgraph {
 
     ghost view = { λ a. record { pattern = a.pattern; target = a.target } };
 
-    ghost invariant = { λ a. AreTables (record { pattern = a.pattern; target = a.target }) a.order.items a.rooms a.predecessors a.joined a.sources a.aims a.partners };
+    ghost invariant = { λ a. AreTables (record { pattern = a.pattern; target = a.target }) a.order.items a.rooms a.predecessors a.joined a.sources a.aims a.partners a.one_way };
 }
 
 /// The problem of a pattern of at most 64 vertices and a target of at most 1,024.
@@ -68,6 +71,7 @@ pub fn pair(alloc: Global, pattern: Graph, target: Graph) -> Result<Subgraph, Me
     let sources = sources(alloc, &pattern, order.as_slice())?;
     let aims = aims(alloc, &pattern, order.as_slice())?;
     let partners = partners(alloc, &pattern, order.as_slice())?;
+    let one_way = has_one_way(&pattern);
     Ok(Subgraph {
         pattern,
         target,
@@ -78,6 +82,7 @@ pub fn pair(alloc: Global, pattern: Graph, target: Graph) -> Result<Subgraph, Me
         sources,
         aims,
         partners,
+        one_way,
     })
 }
 
@@ -141,8 +146,12 @@ impl Subgraph {
         let free = self.rooms.word(place, number) & unused[number];
         let both = self.partners.only_word(place) & mapped;
         let joined = keep_images(&self.joined, node, both, number, free);
+        let successors = self.target.arcs();
+        if !self.one_way {
+            return joined;
+        }
         let from = self.sources.only_word(place) & mapped;
-        let kept = keep_images(self.target.arcs(), node, from, number, joined);
+        let kept = keep_images(successors, node, from, number, joined);
         let to = self.aims.only_word(place) & mapped;
         keep_images(&self.predecessors, node, to, number, kept)
     }
@@ -164,19 +173,36 @@ impl Subgraph {
         false
     }
 
-    /// The set of the candidates for the next vertex.
-    #[inline(always)]
-    pub(crate) fn next_candidates(&self, node: &MapNode) -> [u64; 16]
+    /// The first word, from a number on, that has candidates for the next vertex, and an empty word where none has.
+    pub(crate) fn next_word(&self, node: &MapNode, from: usize) -> VertexWord
         requires node { IsNode self.now node.now }
         requires within { length node.now < vertex_count self.now.pattern }
-        ensures { AreCandidateWords self.now node.now 1024 result }
+        ensures candidates { candidates_from self.now node.now (64 * from) ≡ left_from self.now (kids_of node.now result) }
+        ensures small { result.number < 16 }
     {
         let mut unused = [u64::MAX; 16];
         node.take_from(&mut unused);
-        let mut words = [0; 16];
-        for number in 0..self.width() {
-            words[number] = self.candidates(node, &unused, node.count(), number);
+        for number in from..self.width() {
+            let bits = self.candidates(node, &unused, node.count(), number);
+            if bits != 0 {
+                return VertexWord { number, bits };
+            }
         }
-        words
+        VertexWord { number: 0, bits: 0 }
+    }
+
+    /// Goes on to the next word with candidates where the word of a generator has none left.
+    #[inline(always)]
+    pub(crate) fn fill(&self, kids: &mut MapKids)
+        requires parent { IsNode self.now kids.old.parent }
+        requires within { length kids.old.parent < vertex_count self.now.pattern }
+        ensures parent { kids.new.parent ≡ kids.old.parent }
+        ensures left { left_from self.now kids.new ≡ in_word kids.old.number kids.old.bits ++ candidates_from self.now kids.old.parent (64 * (kids.old.number + 1)) }
+    {
+        let word = kids.word();
+        if word.bits == 0 && word.number + 1 < self.width() {
+            let next = self.next_word(kids.parent(), word.number + 1);
+            kids.go_on(next);
+        }
     }
 }

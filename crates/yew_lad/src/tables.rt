@@ -1,9 +1,9 @@
 //! What depends on the graphs alone, computed once: tables of bits.
 
-ghost use Rattle.std.specs.Prelude.{◌≡◌, ◌+◌, ◌*◌, ◌/◌, ◌<◌, ◌≤◌, IfOk, length};
+ghost use Rattle.std.specs.Prelude.{◌≡◌, ◌+◌, ◌*◌, ◌/◌, ◌<◌, ◌≤◌, IfOk, MatchBool, length};
 ghost use Rattle.std.specs.List.{AllByRecursion};
 ghost use Rattle.yew_lad.specs.Digraphs.{vertex_count};
-ghost use Rattle.yew_lad.specs.Tables.{HasTest, has_room_in, is_arc_back, are_joined, is_one_way, is_joined, is_source, is_aim, is_partner, words_for};
+ghost use Rattle.yew_lad.specs.Tables.{HasTest, HasOneWay, IsTwoWay, has_room_in, is_arc_back, are_joined, is_one_way, is_joined, is_source, is_aim, is_partner, words_for};
 
 use crate::bits::BitTable;
 use crate::graph::Graph;
@@ -61,6 +61,20 @@ fn is_one_way(graph: &Graph, u: usize, v: usize) -> bool
     ensures { result ≡ is_one_way graph.now u v }
 {
     graph.has_arc(u, v) && !graph.has_arc(v, u)
+}
+
+/// Whether some arc has none back.
+pub fn has_one_way(graph: &Graph) -> bool
+    ensures { MatchBool result (HasOneWay graph.now) (IsTwoWay graph.now) }
+{
+    for u in 0..graph.size() {
+        for v in 0..graph.size() {
+            if is_one_way(graph, u, v) {
+                return true;
+            }
+        }
+    }
+    false
 }
 
 /// For each vertex of a graph those with arcs from it and back.

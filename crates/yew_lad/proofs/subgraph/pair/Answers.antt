@@ -1,8 +1,8 @@
-use Rattle.std.proofs.Common.{◌≡◌, ℕ, ◌≤◌, List, [], length, ap, subst, ◌∙◌, arith}
+use Rattle.std.proofs.Common.{◌≡◌, ℕ, ◌≤◌, Bool, true, false, MatchBool, List, [], length, ap, subst, ◌∙◌, arith}
 use Rattle.yew_lad.specs.declared.profiles.Profile.{Profile}
 use Rattle.yew_lad.specs.Digraphs.{Digraph, GraphPair, IsWithinLimits, vertex_count}
 use Rattle.yew_lad.specs.SearchedOrder.{all_placed, profiles_of, searched_profiles}
-use Rattle.yew_lad.specs.Tables.{HasTest, has_room_in}
+use Rattle.yew_lad.specs.Tables.{HasTest, HasOneWay, IsTwoWay, has_room_in}
 use Rattle.yew_lad.proofs.PairTables.{order-few, order-below, sources-of, aims-of, partners-of, rooms-of, images-fit}
 use Rattle.yew_lad.proofs.subgraph.pair.Goals as goal
 
@@ -15,6 +15,11 @@ limits_of pattern target few small = record { pattern = few; target = small }
 -- the order that is made of the profiles
 order-is : (pattern : Digraph) (own slice order other : List Profile) → own ≡ profiles_of pattern → slice ≡ own → order ≡ all_placed [] slice → other ≡ order → other ≡ searched_profiles pattern
 order-is pattern own slice order other is same placed copy = copy ∙ placed ∙ ap (all_placed []) (same ∙ is)
+
+-- where no one-way arc was found there is none
+two-way : (pattern : Digraph) (found : Bool) → MatchBool found (HasOneWay pattern) (IsTwoWay pattern) → found ≡ false → IsTwoWay pattern
+two-way pattern true m e = absurd cc
+two-way pattern false m e = m
 
 pub rooms-requires-clause-order : goal.rooms-requires-clause-order
 rooms-requires-clause-order c =
@@ -78,4 +83,5 @@ invariant_of-result c =
       sources = sources-of pair limits c.as_slice-4.result.now (is c.as_slice-4.result.now c.as_slice-4.ensures.value) c.in_ok-sources.sources c.in_ok-sources.ensures;
       aims = aims-of pair limits c.as_slice-5.result.now (is c.as_slice-5.result.now c.as_slice-5.ensures.value) c.in_ok-aims.aims c.in_ok-aims.ensures;
       partners = partners-of pair limits c.as_slice-6.result.now (is c.as_slice-6.result.now c.as_slice-6.ensures.value) c.in_ok-partners.partners c.in_ok-partners.ensures;
+      two_way = two-way c.args.pattern c.has_one_way-one_way.result c.has_one_way-one_way.ensures;
     }
