@@ -1,7 +1,10 @@
+mod Adding
 mod Amounts
 mod Apart
+mod Breaking
 mod FileGrammar
 mod FileReader
+mod Gains
 mod ItemSteps
 mod ItemWords
 mod Lines
@@ -10,4 +13,5 @@ mod NumberSets
 mod OrderIs
 pub mod Packs
 mod Rights
+mod Sums
 mod Ways

@@ -55,11 +55,11 @@ record Critical (items : ItemSet) (room : ℕ) (xs : List Numbered) : Type 0 whe
 abbrev Greedy : ItemSet → ℕ → List Numbered → Type 0
 Greedy items room xs = (sum_by (profit_in items) xs ≤ dantzig room xs) ⊎ Critical items room xs
 
-dantzig-fits : (room : ℕ) (x : Numbered) (xs : List Numbered) → x.weight ≤ room → dantzig room (x ∷ xs) ≡ x.profit + dantzig (room - x.weight) xs
+pub dantzig-fits : (room : ℕ) (x : Numbered) (xs : List Numbered) → x.weight ≤ room → dantzig room (x ∷ xs) ≡ x.profit + dantzig (room - x.weight) xs
 dantzig-fits room x xs l =
     ap (λ b. if b then x.profit + dantzig (room - x.weight) xs else x.profit * room / x.weight) (le-leb x.weight room l)
 
-dantzig-stops : (room : ℕ) (x : Numbered) (xs : List Numbered) → room < x.weight → dantzig room (x ∷ xs) ≡ x.profit * room / x.weight
+pub dantzig-stops : (room : ℕ) (x : Numbered) (xs : List Numbered) → room < x.weight → dantzig room (x ∷ xs) ≡ x.profit * room / x.weight
 dantzig-stops room x xs l =
     ap (λ b. if b then x.profit + dantzig (room - x.weight) xs else x.profit * room / x.weight) (lt-leb x.weight room l)
 
@@ -187,7 +187,7 @@ module _ (instance : Instance) where
     pub sound : IsNode instance below
     pub agrees : AllByRecursion (λ item. has_item below.chosen item.index ≡ has_item node.chosen item.index) (take node.next (searched_order instance))
 
-  grows-child : (node below : KnapNode) → IsNode instance node → (place : ℕ) (item : Numbered) (after : List Numbered) → IsNext instance node place item after → Grows (added node place item) below → Grows node below
+  grows-child : (node below : KnapNode) → IsNode instance node → (place : ℕ) (item : Numbered) (after : List Numbered) → IsNext instance node place item after → Grows (added instance node place item) below → Grows node below
   grows-child node below sound place item after next grows = record {
     sound = grows.sound;
     agrees =

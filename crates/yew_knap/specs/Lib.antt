@@ -12,3 +12,4 @@ pub mod Packings
 pub mod Reading
 pub mod SearchedOrder
 pub mod Texts
+pub mod Totals

@@ -141,7 +141,7 @@ module _ (instance : Instance) (node : KnapNode) (sound : IsNode instance node) 
         neither a b x y = grind (arith, nat_tests)
 
     -- the set with the item is a node
-    pub child-sound : IsNode instance (added node place item)
+    pub child-sound : IsNode instance (added instance node place item)
     child-sound =
         let profits = sum_by-added instance place item after next.at (λ y. y.profit) node.chosen sound.size sound.limits absent in
         let weights = sum_by-added instance place item after next.at (λ y. y.weight) node.chosen sound.size sound.limits absent in
@@ -151,6 +151,7 @@ module _ (instance : Instance) (node : KnapNode) (sound : IsNode instance node) 
           within = place_within instance place item after next.at;
           profit_is = let e = sound.profit_is in omega (arith, profits, e);
           room_is = let e = sound.room_is in let f = next.fits in omega (arith, weights, e, f);
+          breaking_is = refl;
           none_later = subst (λ ys. AllByRecursion (λ y. has_item (with_item node.chosen item.index) y.index ≡ false) ys) (sym (rest_after instance place item after next.at)) none_after;
         }
 
@@ -160,16 +161,16 @@ pub record IsAdded (instance : Instance) (node child : KnapNode) : Type 0 where
   pub item : Numbered
   pub after : List Numbered
   pub next : IsNext instance node place item after
-  pub is : child ≡ added node place item
+  pub is : child ≡ added instance node place item
 
 module _ (instance : Instance) (node : KnapNode) where
   -- what holds of a node's set with each item that fits, from a place on
-  pub with_one_more-all : (P : KnapNode → Type 0) → ((place : ℕ) (item : Numbered) (after : List Numbered) → IsNext instance node place item after → P (added node place item)) → (place : ℕ) (items : List Numbered) → node.next ≤ place → drop place (searched_order instance) ≡ items → AllByRecursion P (with_one_more node place items)
+  pub with_one_more-all : (P : KnapNode → Type 0) → ((place : ℕ) (item : Numbered) (after : List Numbered) → IsNext instance node place item after → P (added instance node place item)) → (place : ℕ) (items : List Numbered) → node.next ≤ place → drop place (searched_order instance) ≡ items → AllByRecursion P (with_one_more instance node place items)
   with_one_more-all P step place [] from at = tt
   with_one_more-all P step place (item ∷ items) from at =
       let rest = with_one_more-all P step (place + 1) items (omega arith) (rest_after instance place item items at) in
       elim (nat_le item.weight node.room)
-      as (λ b. nat_le item.weight node.room ≡ b → AllByRecursion P (if b then added node place item ∷ with_one_more node (place + 1) items else with_one_more node (place + 1) items)) [
+      as (λ b. nat_le item.weight node.room ≡ b → AllByRecursion P (if b then added instance node place item ∷ with_one_more instance node (place + 1) items else with_one_more instance node (place + 1) items)) [
         | true ↦ λ e. (step place item items (record { from = from; at = at; fits = leb-true item.weight node.room e }), rest)
         | false ↦ λ e. rest
       ]
@@ -209,6 +210,7 @@ module _ (instance : Instance) where
     within = omega arith;
     profit_is = sym (nothing (λ item. item.profit));
     room_is = let e = nothing (λ item. item.weight) in omega (arith, e);
+    breaking_is = refl;
     none_later = AllByRecursion-all (λ item. has_item no_items item.index ≡ false) (λ item. has_item-no_items item.index) (searched_order instance);
   }
     where
@@ -220,11 +222,11 @@ module _ (instance : Instance) where
   pub root_rank-small : IsWithinLimits instance → rank_of instance (root_of instance) ≤ 65535
   root_rank-small limits = let few = limits.few in let e = length-searched_order instance in omega (arith, few, e)
 
-length-with_one_more : (node : KnapNode) (place : ℕ) (items : List Numbered) → length (with_one_more node place items) ≤ length items
-length-with_one_more node place [] = omega arith
-length-with_one_more node place (item ∷ items) =
-    let rest = length-with_one_more node (place + 1) items in
-    elim (nat_le item.weight node.room) as (λ b. length (if b then added node place item ∷ with_one_more node (place + 1) items else with_one_more node (place + 1) items) ≤ length (item ∷ items)) [
+length-with_one_more : (instance : Instance) (node : KnapNode) (place : ℕ) (items : List Numbered) → length (with_one_more instance node place items) ≤ length items
+length-with_one_more instance node place [] = omega arith
+length-with_one_more instance node place (item ∷ items) =
+    let rest = length-with_one_more instance node (place + 1) items in
+    elim (nat_le item.weight node.room) as (λ b. length (if b then added instance node place item ∷ with_one_more instance node (place + 1) items else with_one_more instance node (place + 1) items) ≤ length (item ∷ items)) [
       | true ↦ omega (arith, rest)
       | false ↦ omega (arith, rest)
     ]
@@ -232,7 +234,7 @@ length-with_one_more node place (item ∷ items) =
 -- a node has at most as many children as there are items
 pub children-few : (instance : Instance) (node : KnapNode) → IsNode instance node → length (children_of instance node) + 1 < 2 ^ 32
 children-few instance node sound =
-    let most = length-with_one_more node node.next (drop node.next (searched_order instance)) in
+    let most = length-with_one_more instance node node.next (drop node.next (searched_order instance)) in
     let rest = length-drop node.next (searched_order instance) in
     let few = sound.limits.few in
     let e = length-searched_order instance in

@@ -1,5 +1,5 @@
 -- The tree of the sets of items that can be carried.
-use Rattle.std.specs.Prelude.{◌≡◌, ℕ, ◌+◌, ◌-◌, ◌*◌, ◌/◌, ◌≤◌, false, List, [], ◌∷◌, length, drop, filter, sum_by, nat_le, if◌then◌else◌}
+use Rattle.std.specs.Prelude.{◌≡◌, ℕ, ◌+◌, ◌-◌, ◌*◌, ◌/◌, ◌≤◌, false, List, [], ◌∷◌, length, drop, filter, sum_by, slice_index_or, nat_le, if◌then◌else◌}
 use Rattle.std.specs.List.{AllByRecursion, range_with_len}
 use Rattle.yew_knap.specs.declared.item_sets.ItemSet.{ItemSet}
 use Rattle.yew_knap.specs.declared.nodes.KnapNode.{KnapNode}
@@ -13,26 +13,42 @@ use Rattle.yew_knap.specs.SearchedOrder.{searched_order}
 abbrev pub chosen_of : Instance → KnapNode → List ℕ
 chosen_of instance node = filter (λ number. has_item node.chosen (number - 1)) (range_with_len 1 (length instance.items))
 
+-- the place of the first item that does not fit where those of a list, which begins at a place, are taken in order while
+-- they fit, and the place behind the list where all of them fit
+abbrev pub breaking_place : ℕ → ℕ → List Numbered → ℕ
+breaking_place room place [] = place
+breaking_place room place (item ∷ items) = if nat_le item.weight room then breaking_place (room - item.weight) (place + 1) items else place
+
 -- the empty set
 abbrev pub root_of : Instance → KnapNode
-root_of instance = record { profit = 0; room = instance.capacity; next = 0; chosen = no_items }
+root_of instance = record { profit = 0; room = instance.capacity; next = 0; breaking = breaking_place instance.capacity 0 (searched_order instance); chosen = no_items }
+
+-- the item of a place, and a blank one past the end
+abbrev pub item_of : List Numbered → ℕ → Numbered
+item_of items place = slice_index_or items place (record { profit = 0; weight = 0; index = 0 })
 
 -- a set with the item at a place of the searched order
-abbrev pub added : KnapNode → ℕ → Numbered → KnapNode
-added node place item = record { profit = node.profit + item.profit; room = node.room - item.weight; next = place + 1; chosen = with_item node.chosen item.index }
+abbrev pub added : Instance → KnapNode → ℕ → Numbered → KnapNode
+added instance node place item = record {
+  profit = node.profit + item.profit;
+  room = node.room - item.weight;
+  next = place + 1;
+  breaking = breaking_place (node.room - item.weight) (place + 1) (drop (place + 1) (searched_order instance));
+  chosen = with_item node.chosen item.index;
+}
 
 -- the sets with one more item, of those items from a place on that fit
-abbrev pub with_one_more : KnapNode → ℕ → List Numbered → List KnapNode
-with_one_more node place [] = []
-with_one_more node place (item ∷ items) = if nat_le item.weight node.room then added node place item ∷ with_one_more node (place + 1) items else with_one_more node (place + 1) items
+abbrev pub with_one_more : Instance → KnapNode → ℕ → List Numbered → List KnapNode
+with_one_more instance node place [] = []
+with_one_more instance node place (item ∷ items) = if nat_le item.weight node.room then added instance node place item ∷ with_one_more instance node (place + 1) items else with_one_more instance node (place + 1) items
 
 -- the sets with one item more that stands after the last added one and fits
 abbrev pub children_of : Instance → KnapNode → List KnapNode
-children_of instance node = with_one_more node node.next (drop node.next (searched_order instance))
+children_of instance node = with_one_more instance node node.next (drop node.next (searched_order instance))
 
 -- those that a generator has still to give
 abbrev pub remaining_of : Instance → KnapKids → List KnapNode
-remaining_of instance kids = with_one_more kids.parent kids.next (drop kids.next (searched_order instance))
+remaining_of instance kids = with_one_more instance kids.parent kids.next (drop kids.next (searched_order instance))
 
 -- the number of items after the last added one
 abbrev pub rank_of : Instance → KnapNode → ℕ
@@ -55,11 +71,12 @@ bound_of instance node = node.profit + dantzig node.room (drop node.next (search
 abbrev pub amount_in : (Numbered → ℕ) → ItemSet → Numbered → ℕ
 amount_in amount items item = if has_item items item.index then amount item else 0
 
--- the node's numbers are those of its set, and no item from its next place on is in the set
+-- the node's numbers and places are those of its set, and no item from its next place on is in the set
 pub record IsNode (instance : Instance) (node : KnapNode) : Type 0 where
   pub limits : IsWithinLimits instance
   pub size : length node.chosen.words ≡ 4
   pub within : node.next ≤ length (searched_order instance)
   pub profit_is : node.profit ≡ sum_by (amount_in (λ item. item.profit) node.chosen) (searched_order instance)
   pub room_is : node.room + sum_by (amount_in (λ item. item.weight) node.chosen) (searched_order instance) ≡ instance.capacity
+  pub breaking_is : node.breaking ≡ breaking_place node.room node.next (drop node.next (searched_order instance))
   pub none_later : AllByRecursion (λ item. has_item node.chosen item.index ≡ false) (drop node.next (searched_order instance))

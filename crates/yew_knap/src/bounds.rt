@@ -1,26 +1,35 @@
 //! Dantzig's bound (G. B. Dantzig, Discrete-variable extremum problems, 1957).
 
-ghost use Rattle.std.specs.Prelude.{◌≡◌, ◌<◌, ◌^◌};
-ghost use Rattle.yew_knap.specs.Nodes.{dantzig};
+ghost use Rattle.std.specs.Prelude.{◌≡◌, ◌<◌, ◌≤◌, ◌^◌, drop, length};
+ghost use Rattle.yew_knap.specs.Nodes.{breaking_place, dantzig};
+ghost use Rattle.yew_knap.specs.Totals.{all_totals};
 
 use crate::order::Numbered;
+use crate::totals::Total;
 
-/// The most profit that items within a room can add, if parts of items could be taken: each item while it fits, and
-/// then, of the first one that does not fit, the whole part of its profit times the room left divided by its weight.
+/// The most profit that the items from a place on can add within a room, if parts of items could be taken: each item while
+/// it fits, and then, of the first one that does not fit, which stands at `breaking`, the whole part of its profit times
+/// the room left divided by its weight. The items that fit are summed by the totals in front of both places.
 #[inline(always)]
-pub fn greedy_gain(items: &[Numbered], room: u64) -> u64
-    requires { dantzig room items.now < 2 ^ 64 }
-    ensures { result ≡ dantzig room items.now }
+pub fn greedy_gain(
+    items: &[Numbered],
+    totals: &[Total],
+    next: usize,
+    breaking: usize,
+    room: u64,
+) -> u64
+    requires totals { totals.now ≡ all_totals 0 0 items.now }
+    requires next { next ≤ length items.now }
+    requires breaking { breaking ≡ breaking_place room next (drop next items.now) }
+    requires small { dantzig room (drop next items.now) < 2 ^ 64 }
+    ensures { result ≡ dantzig room (drop next items.now) }
 {
-    let mut gain = 0;
-    let mut left = room;
-    for item in items {
-        let weight = item.weight as u64;
-        if weight > left {
-            return gain + item.profit as u64 * left / weight;
-        }
-        left -= weight;
-        gain += item.profit as u64;
+    let gain = totals[breaking].profit - totals[next].profit;
+    if breaking == items.len() {
+        return gain;
     }
-    gain
+    let item = &items[breaking];
+    let weight = item.weight as u64;
+    let left = room - (totals[breaking].weight - totals[next].weight);
+    gain + item.profit as u64 * left / weight
 }

@@ -4,6 +4,7 @@ ghost use Rattle.std.specs.Prelude.{◌≡◌, ◌≤◌, length, IfOk};
 ghost use Rattle.yew_knap.specs.Instance.{Instance};
 
 use crate::order::{Numbered, order_of};
+use crate::totals::{Total, totals_of};
 use std::marker::Model;
 use yew_laws::Memory;
 
@@ -15,12 +16,13 @@ pub struct Item {
 }
 
 /// A knapsack problem: the weight that can be carried, and the items in the order of the file. Beside them it keeps the
-/// items in the order in which they are tried.
+/// items in the order in which they are tried, and the totals of those in front of each place of that order.
 #[derive(Drop)]
 pub struct Knapsack {
     capacity: u64,
     items: Vec<Item>,
     order: Vec<Numbered>,
+    totals: Vec<Total>,
 }
 
 impl Model for Knapsack {
@@ -30,14 +32,16 @@ impl Model for Knapsack {
     ghost Value = { Instance };
 
     ghost use Rattle.yew_knap.specs.SearchedOrder.{all_placed};
+    ghost use Rattle.yew_knap.specs.Totals.{all_totals};
 
     ghost view = { λ a. record { capacity = a.capacity; items = a.items.items } };
 
-    ghost invariant = { λ a. a.order.items ≡ all_placed [] 0 a.items.items };
+    ghost invariant = { λ a. (a.order.items ≡ all_placed [] 0 a.items.items) × (a.totals.items ≡ all_totals 0 0 a.order.items) };
 }
 
 impl Knapsack {
     ghost use Rattle.yew_knap.specs.SearchedOrder.{searched_order};
+    ghost use Rattle.yew_knap.specs.Totals.{all_totals};
 
     /// The problem of at most 256 items.
     pub(crate) fn new(capacity: u64, items: Vec<Item>) -> Result<Knapsack, Memory>
@@ -45,10 +49,12 @@ impl Knapsack {
         ensures { IfOk result (λ problem. problem ≡ record { capacity = capacity; items = items.items }) }
     {
         let order = order_of(*items.allocator(), items.as_slice())?;
+        let totals = totals_of(*items.allocator(), order.as_slice())?;
         Ok(Knapsack {
             capacity,
             items,
             order,
+            totals,
         })
     }
 
@@ -73,5 +79,13 @@ impl Knapsack {
         ensures { result.now ≡ searched_order self.now }
     {
         self.order.as_slice()
+    }
+
+    /// The totals of the items in front of each place of that order, and of all.
+    #[inline(always)]
+    pub(crate) fn totals(&self) -> &[Total]
+        ensures { result.now ≡ all_totals 0 0 (searched_order self.now) }
+    {
+        self.totals.as_slice()
     }
 }

@@ -16,6 +16,7 @@ mod reading;
 #[cfg(test)]
 mod tests;
 mod texts;
+mod totals;
 
 pub use knapsack::Knapsack;
 pub use nodes::{KnapKids, KnapNode};

@@ -1,11 +1,43 @@
 //! The knapsack problem as a problem of tree search.
 
+ghost use Rattle.std.specs.Prelude.{◌≡◌, ◌<◌, ◌≤◌, length};
+
 use crate::bounds::greedy_gain;
 use crate::item_sets::ItemSet;
 use crate::knapsack::Knapsack;
 use crate::nodes::{KnapKids, KnapNode};
+use crate::totals::find_breaking;
 use std::alloc::Global;
 use yew_laws::{Memory, Problem};
+
+impl Knapsack {
+    ghost use Rattle.yew_knap.specs.Nodes.{added, item_of, IsNode};
+    ghost use Rattle.yew_knap.specs.SearchedOrder.{searched_order};
+
+    /// A node's set with the item at a place of the searched order, which fits. Its breaking place is likely the given one
+    /// or one soon behind it.
+    #[inline(always)]
+    fn with(&self, node: &KnapNode, place: usize, likely: usize) -> KnapNode
+        requires within { place < length (searched_order self.now) }
+        requires fits { (item_of (searched_order self.now) place).weight ≤ node.now.room }
+        requires sound { IsNode self.now (added self.now node.now place (item_of (searched_order self.now) place)) }
+        ensures { result ≡ added self.now node.now place (item_of (searched_order self.now) place) }
+    {
+        let order = self.order();
+        let totals = self.totals();
+        let next = place + 1;
+        // Together with all items in front of the place, so that the totals tell which items fit.
+        let room = totals[place].weight + node.room;
+        let item = &order[place];
+        KnapNode {
+            profit: node.profit + item.profit as u64,
+            room: node.room - item.weight as u64,
+            next,
+            breaking: find_breaking(order, totals, likely, next, room),
+            chosen: node.chosen.with(item.index),
+        }
+    }
+}
 
 impl Problem for Knapsack {
     ghost use Rattle.yew_knap.specs.Nodes.{root_of, children_of, remaining_of, rank_of, worth_of, bound_of, IsNode};
@@ -39,10 +71,12 @@ impl Problem for Knapsack {
     ghost countable = { children-few };
 
     fn root(&self, _alloc: Global) -> Result<KnapNode, Memory> {
+        let capacity = self.capacity();
         Ok(KnapNode {
             profit: 0,
-            room: self.capacity(),
+            room: capacity,
             next: 0,
+            breaking: find_breaking(self.order(), self.totals(), 0, 0, capacity),
             chosen: ItemSet::empty(),
         })
     }
@@ -51,6 +85,7 @@ impl Problem for Knapsack {
     fn open(&self, _alloc: Global, node: KnapNode) -> Result<KnapKids, Memory> {
         Ok(KnapKids {
             next: node.next,
+            breaking: node.breaking,
             parent: node,
         })
     }
@@ -61,8 +96,10 @@ impl Problem for Knapsack {
         for place in kids.next..order.len() {
             let item = &order[place];
             if item.weight as u64 <= kids.parent.room {
-                kids.next = place + 1;
-                return Ok(Some(kids.parent.with(place, item)));
+                let node = self.with(&kids.parent, place, kids.breaking);
+                kids.next = node.next;
+                kids.breaking = node.breaking;
+                return Ok(Some(node));
             }
         }
         kids.next = order.len();
@@ -76,6 +113,13 @@ impl Problem for Knapsack {
 
     #[inline(always)]
     fn bound(&self, node: &KnapNode) -> u64 {
-        node.profit + greedy_gain(&self.order()[node.next..], node.room) + 1
+        let gain = greedy_gain(
+            self.order(),
+            self.totals(),
+            node.next,
+            node.breaking,
+            node.room,
+        );
+        node.profit + gain + 1
     }
 }

@@ -1,22 +1,10 @@
-use Rattle.std.proofs.Common.{◌+◌, ◌∙◌, ◌∷◌, ap, sym, arith}
+use Rattle.std.proofs.Common.{◌+◌, ◌∙◌, ◌∷◌, drop, ap, sym, subst, arith}
 use Rattle.yew_knap.specs.declared.nodes.KnapKids.{KnapKids}
-use Rattle.yew_knap.specs.Nodes.{added, remaining_of}
-use Rattle.yew_knap.proofs.Nexts.{item_of, with_one_more-skips, gives, index-small, profit-small, nothing_left, nothing_behind}
+use Rattle.yew_knap.specs.declared.nodes.KnapNode.{KnapNode}
+use Rattle.yew_knap.specs.Nodes.{added, with_one_more, item_of, IsNode}
+use Rattle.yew_knap.specs.SearchedOrder.{searched_order}
+use Rattle.yew_knap.proofs.Nexts.{with_one_more-skips, gives, child, nothing_left, nothing_behind}
 use Rattle.yew_knap.proofs.problem.KnapsackProblem.next.Goals as goal
-
-pub with-requires-clause-index : goal.with-requires-clause-index
-with-requires-clause-index c =
-    let order = c.order-order.result.now in
-    let room = ap (λ (k : KnapKids). k.parent.room) c.loop-place.invariant.kept in
-    index-small c.args.self.now c.args.kids.now order c.order-order.ensures c.loop-place.place c.loop-place.invariant.stands (omega arith) (omega (arith, room)) c.requires.kids
-
-pub with-requires-clause-profit : goal.with-requires-clause-profit
-with-requires-clause-profit c =
-    let order = c.order-order.result.now in
-    let room = ap (λ (k : KnapKids). k.parent.room) c.loop-place.invariant.kept in
-    let profit = ap (λ (k : KnapKids). k.parent.profit) c.loop-place.invariant.kept in
-    let small = profit-small c.args.self.now c.args.kids.now order c.order-order.ensures c.loop-place.place c.loop-place.invariant.stands (omega arith) (omega (arith, room)) c.requires.kids in
-    omega (arith, small, profit)
 
 pub loop-place-preserved : goal.loop-place-preserved
 loop-place-preserved c =
@@ -24,18 +12,30 @@ loop-place-preserved c =
     let room = ap (λ (k : KnapKids). k.parent.room) c.loop-place.invariant.kept in
     record {
       kept = c.loop-place.invariant.kept;
-      stands = sym (with_one_more-skips c.args.kids.now.parent order c.loop-place.place (omega arith) (omega (arith, room))) ∙ c.loop-place.invariant.stands;
+      stands = sym (with_one_more-skips c.args.self.now c.args.kids.now.parent order c.loop-place.place (omega arith) (omega (arith, room))) ∙ c.loop-place.invariant.stands;
     }
+
+pub with-node-requires-clause-sound : goal.with-node-requires-clause-sound
+with-node-requires-clause-sound c =
+    let order = c.order-order.result.now in
+    let kept = c.loop-place.invariant.kept in
+    let room = ap (λ (k : KnapKids). k.parent.room) kept in
+    let place = c.loop-place.place in
+    let sound = child c.args.self.now c.args.kids.now order c.order-order.ensures place c.loop-place.invariant.stands (omega arith) (omega (arith, room)) c.requires.kids in
+    subst (λ items. IsNode c.args.self.now (added c.args.self.now c.loop-place.kids.parent place (item_of items place))) c.order-order.ensures
+    (subst (λ (k : KnapKids). IsNode c.args.self.now (added c.args.self.now k.parent place (item_of order place))) (sym kept) sound)
 
 pub returns-then-item-kids-clause-ok : goal.returns-then-item-kids-clause-ok
 returns-then-item-kids-clause-ok c =
     let order = c.order-order.result.now in
+    let instance = c.args.self.now in
     let place = c.loop-place.place in
     let kept = c.loop-place.invariant.kept in
     let room = ap (λ (k : KnapKids). k.parent.room) kept in
-    gives c.args.self.now c.args.kids.now order c.order-order.ensures place c.loop-place.invariant.stands (omega arith) (omega (arith, room))
-    ∙ ap (λ (k : KnapKids). added k.parent place (item_of order place) ∷ remaining_of c.args.self.now (record { parent = k.parent; next = place + 1 })) (sym kept)
-    ∙ ap (λ n. n ∷ remaining_of c.args.self.now (record { parent = c.loop-place.kids.parent; next = place + 1 })) (sym c.with.ensures)
+    gives instance c.args.kids.now order c.order-order.ensures place c.loop-place.invariant.stands (omega arith) (omega (arith, room))
+    ∙ ap (λ (k : KnapKids). added instance k.parent place (item_of order place) ∷ with_one_more instance k.parent (place + 1) (drop (place + 1) (searched_order instance))) (sym kept)
+    ∙ ap (λ items. added instance c.loop-place.kids.parent place (item_of items place) ∷ with_one_more instance c.loop-place.kids.parent (place + 1) (drop (place + 1) (searched_order instance))) c.order-order.ensures
+    ∙ ap (λ (n : KnapNode). n ∷ with_one_more instance c.loop-place.kids.parent n.next (drop n.next (searched_order instance))) (sym c.with-node.ensures)
 
 pub returns-clause-ok : goal.returns-clause-ok
 returns-clause-ok c =
