@@ -7,6 +7,7 @@ mod FileReader
 mod Gains
 mod ItemSteps
 mod ItemWords
+mod Leasts
 mod Lines
 mod Nexts
 mod NumberSets

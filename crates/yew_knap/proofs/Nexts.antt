@@ -40,6 +40,9 @@ module _ (instance : Instance) (kids : KnapKids) (order : List Numbered) (is_ord
       pub child : IsNode instance (added instance kids.parent place (item_of order place))
       child = (subst (AllByRecursion (IsNode instance)) gives sound).0
 
+  pub none_left : with_one_more instance kids.parent place (drop place order) ≡ [] → remaining_of instance kids ≡ []
+  none_left none = remaining_is ∙ none
+
   pub nothing_left : length order ≤ place → remaining_of instance kids ≡ []
   nothing_left past = remaining_is ∙ ap (with_one_more instance kids.parent place) (drop_all place order past)
 

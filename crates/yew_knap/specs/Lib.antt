@@ -4,6 +4,7 @@ pub mod Files
 pub mod Instance
 pub mod ItemSetLaws
 pub mod ItemSets
+pub mod LeastWeights
 pub mod Lists
 pub mod NodeLaws
 pub mod Nodes

@@ -3,6 +3,7 @@
 ghost use Rattle.std.specs.Prelude.{◌≡◌, ◌≤◌, length, IfOk};
 ghost use Rattle.yew_knap.specs.Instance.{Instance};
 
+use crate::least_weights::least_weights_of;
 use crate::order::{Numbered, order_of};
 use crate::totals::{Total, totals_of};
 use std::marker::Model;
@@ -16,13 +17,15 @@ pub struct Item {
 }
 
 /// A knapsack problem: the weight that can be carried, and the items in the order of the file. Beside them it keeps the
-/// items in the order in which they are tried, and the totals of those in front of each place of that order.
+/// items in the order in which they are tried, and for each place of that order the totals of those in front of it and the
+/// least weight from there on.
 #[derive(Drop)]
 pub struct Knapsack {
     capacity: u64,
     items: Vec<Item>,
     order: Vec<Numbered>,
     totals: Vec<Total>,
+    least_weights: Vec<u32>,
 }
 
 impl Model for Knapsack {
@@ -31,15 +34,17 @@ impl Model for Knapsack {
 
     ghost Value = { Instance };
 
+    ghost use Rattle.yew_knap.specs.LeastWeights.{all_least};
     ghost use Rattle.yew_knap.specs.SearchedOrder.{all_placed};
     ghost use Rattle.yew_knap.specs.Totals.{all_totals};
 
     ghost view = { λ a. record { capacity = a.capacity; items = a.items.items } };
 
-    ghost invariant = { λ a. (a.order.items ≡ all_placed [] 0 a.items.items) × (a.totals.items ≡ all_totals 0 0 a.order.items) };
+    ghost invariant = { λ a. (a.order.items ≡ all_placed [] 0 a.items.items) × (a.totals.items ≡ all_totals 0 0 a.order.items) × (a.least_weights.items ≡ all_least a.order.items) };
 }
 
 impl Knapsack {
+    ghost use Rattle.yew_knap.specs.LeastWeights.{all_least};
     ghost use Rattle.yew_knap.specs.SearchedOrder.{searched_order};
     ghost use Rattle.yew_knap.specs.Totals.{all_totals};
 
@@ -50,11 +55,13 @@ impl Knapsack {
     {
         let order = order_of(*items.allocator(), items.as_slice())?;
         let totals = totals_of(*items.allocator(), order.as_slice())?;
+        let least_weights = least_weights_of(*items.allocator(), order.as_slice())?;
         Ok(Knapsack {
             capacity,
             items,
             order,
             totals,
+            least_weights,
         })
     }
 
@@ -87,5 +94,13 @@ impl Knapsack {
         ensures { result.now ≡ all_totals 0 0 (searched_order self.now) }
     {
         self.totals.as_slice()
+    }
+
+    /// The least weight from each place of that order on.
+    #[inline(always)]
+    pub(crate) fn least_weights(&self) -> &[u32]
+        ensures { result.now ≡ all_least (searched_order self.now) }
+    {
+        self.least_weights.as_slice()
     }
 }

@@ -9,6 +9,7 @@ mod bounds;
 mod item_sets;
 mod knapsack;
 pub mod laws;
+mod least_weights;
 mod nodes;
 mod order;
 mod problem;

@@ -93,6 +93,7 @@ impl Problem for Knapsack {
     #[inline(always)]
     fn next(&self, _alloc: Global, kids: &mut KnapKids) -> Result<Option<KnapNode>, Memory> {
         let order = self.order();
+        let least_weights = self.least_weights();
         for place in kids.next..order.len() {
             let item = &order[place];
             if item.weight as u64 <= kids.parent.room {
@@ -100,6 +101,10 @@ impl Problem for Knapsack {
                 kids.next = node.next;
                 kids.breaking = node.breaking;
                 return Ok(Some(node));
+            }
+            if kids.parent.room < least_weights[place] as u64 {
+                kids.next = order.len();
+                return Ok(None);
             }
         }
         kids.next = order.len();

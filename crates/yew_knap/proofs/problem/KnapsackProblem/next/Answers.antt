@@ -1,9 +1,11 @@
-use Rattle.std.proofs.Common.{◌+◌, ◌∙◌, ◌∷◌, drop, ap, sym, subst, arith}
+use Rattle.std.proofs.Common.{◌+◌, ◌∙◌, ◌∷◌, drop, length, get_or, ap, sym, subst, arith}
 use Rattle.yew_knap.specs.declared.nodes.KnapKids.{KnapKids}
 use Rattle.yew_knap.specs.declared.nodes.KnapNode.{KnapNode}
 use Rattle.yew_knap.specs.Nodes.{added, with_one_more, item_of, IsNode}
 use Rattle.yew_knap.specs.SearchedOrder.{searched_order}
-use Rattle.yew_knap.proofs.Nexts.{with_one_more-skips, gives, child, nothing_left, nothing_behind}
+use Rattle.yew_knap.specs.LeastWeights.{all_least}
+use Rattle.yew_knap.proofs.Leasts.{length-all_least, none_fits}
+use Rattle.yew_knap.proofs.Nexts.{with_one_more-skips, gives, child, none_left, nothing_left, nothing_behind}
 use Rattle.yew_knap.proofs.problem.KnapsackProblem.next.Goals as goal
 
 pub loop-place-preserved : goal.loop-place-preserved
@@ -36,6 +38,20 @@ returns-then-item-kids-clause-ok c =
     ∙ ap (λ (k : KnapKids). added instance k.parent place (item_of order place) ∷ with_one_more instance k.parent (place + 1) (drop (place + 1) (searched_order instance))) (sym kept)
     ∙ ap (λ items. added instance c.loop-place.kids.parent place (item_of items place) ∷ with_one_more instance c.loop-place.kids.parent (place + 1) (drop (place + 1) (searched_order instance))) c.order-order.ensures
     ∙ ap (λ (n : KnapNode). n ∷ with_one_more instance c.loop-place.kids.parent n.next (drop n.next (searched_order instance))) (sym c.with-node.ensures)
+
+pub bounds-least_weights-place : goal.bounds-least_weights-place
+bounds-least_weights-place c = omega (arith, ap length c.least_weights-least_weights.ensures, length-all_least (searched_order c.args.self.now), ap length c.order-order.ensures)
+
+pub returns-then-kids-least_weights-clause-ok : goal.returns-then-kids-least_weights-clause-ok
+returns-then-kids-least_weights-clause-ok c =
+    let instance = c.args.self.now in
+    let order = c.order-order.result.now in
+    let place = c.loop-place.place in
+    let room = ap (λ (k : KnapKids). k.parent.room) c.loop-place.invariant.kept in
+    let least = ap (λ weights. get_or weights place 0) (c.least_weights-least_weights.ensures ∙ ap all_least (sym c.order-order.ensures)) in (
+      none_left instance c.args.kids.now order c.order-order.ensures place c.loop-place.invariant.stands (none_fits instance c.args.kids.now.parent order place (omega arith) (omega (arith, room, least))),
+      nothing_behind instance c.loop-place.kids.parent order c.order-order.ensures,
+    )
 
 pub returns-clause-ok : goal.returns-clause-ok
 returns-clause-ok c =
