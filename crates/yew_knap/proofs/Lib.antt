@@ -13,6 +13,7 @@ mod Nexts
 mod NumberSets
 mod OrderIs
 pub mod Packs
+mod Reciprocals
 mod Rights
 mod Sums
 mod Ways

@@ -10,6 +10,7 @@ pub mod NodeLaws
 pub mod Nodes
 pub mod OrderLaws
 pub mod Packings
+pub mod Quotients
 pub mod Reading
 pub mod SearchedOrder
 pub mod Texts

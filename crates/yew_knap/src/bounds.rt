@@ -2,9 +2,11 @@
 
 ghost use Rattle.std.specs.Prelude.{◌≡◌, ◌<◌, ◌≤◌, ◌^◌, drop, length};
 ghost use Rattle.yew_knap.specs.Nodes.{breaking_place, dantzig};
+ghost use Rattle.yew_knap.specs.Quotients.{all_reciprocals};
 ghost use Rattle.yew_knap.specs.Totals.{all_totals};
 
 use crate::order::Numbered;
+use crate::quotients::quotient;
 use crate::totals::Total;
 
 /// The most profit that the items from a place on can add within a room, if parts of items could be taken: each item while
@@ -14,11 +16,13 @@ use crate::totals::Total;
 pub fn greedy_gain(
     items: &[Numbered],
     totals: &[Total],
+    reciprocals: &[u64],
     next: usize,
     breaking: usize,
     room: u64,
 ) -> u64
     requires totals { totals.now ≡ all_totals 0 0 items.now }
+    requires reciprocals { reciprocals.now ≡ all_reciprocals items.now }
     requires next { next ≤ length items.now }
     requires breaking { breaking ≡ breaking_place room next (drop next items.now) }
     requires small { dantzig room (drop next items.now) < 2 ^ 64 }
@@ -31,5 +35,5 @@ pub fn greedy_gain(
     let item = &items[breaking];
     let weight = item.weight as u64;
     let left = room - (totals[breaking].weight - totals[next].weight);
-    gain + item.profit as u64 * left / weight
+    gain + quotient(item.profit as u64 * left, weight, reciprocals[breaking])
 }

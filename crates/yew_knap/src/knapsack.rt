@@ -5,6 +5,7 @@ ghost use Rattle.yew_knap.specs.Instance.{Instance};
 
 use crate::least_weights::least_weights_of;
 use crate::order::{Numbered, order_of};
+use crate::quotients::reciprocals_of;
 use crate::totals::{Total, totals_of};
 use std::marker::Model;
 use yew_laws::Memory;
@@ -17,8 +18,8 @@ pub struct Item {
 }
 
 /// A knapsack problem: the weight that can be carried, and the items in the order of the file. Beside them it keeps the
-/// items in the order in which they are tried, and for each place of that order the totals of those in front of it and the
-/// least weight from there on.
+/// items in the order in which they are tried, and for each place of that order the totals of those in front of it, the
+/// least weight from there on, and the reciprocal of the weight there.
 #[derive(Drop)]
 pub struct Knapsack {
     capacity: u64,
@@ -26,6 +27,7 @@ pub struct Knapsack {
     order: Vec<Numbered>,
     totals: Vec<Total>,
     least_weights: Vec<u32>,
+    reciprocals: Vec<u64>,
 }
 
 impl Model for Knapsack {
@@ -35,16 +37,18 @@ impl Model for Knapsack {
     ghost Value = { Instance };
 
     ghost use Rattle.yew_knap.specs.LeastWeights.{all_least};
+    ghost use Rattle.yew_knap.specs.Quotients.{all_reciprocals};
     ghost use Rattle.yew_knap.specs.SearchedOrder.{all_placed};
     ghost use Rattle.yew_knap.specs.Totals.{all_totals};
 
     ghost view = { λ a. record { capacity = a.capacity; items = a.items.items } };
 
-    ghost invariant = { λ a. (a.order.items ≡ all_placed [] 0 a.items.items) × (a.totals.items ≡ all_totals 0 0 a.order.items) × (a.least_weights.items ≡ all_least a.order.items) };
+    ghost invariant = { λ a. (a.order.items ≡ all_placed [] 0 a.items.items) × (a.totals.items ≡ all_totals 0 0 a.order.items) × (a.least_weights.items ≡ all_least a.order.items) × (a.reciprocals.items ≡ all_reciprocals a.order.items) };
 }
 
 impl Knapsack {
     ghost use Rattle.yew_knap.specs.LeastWeights.{all_least};
+    ghost use Rattle.yew_knap.specs.Quotients.{all_reciprocals};
     ghost use Rattle.yew_knap.specs.SearchedOrder.{searched_order};
     ghost use Rattle.yew_knap.specs.Totals.{all_totals};
 
@@ -56,12 +60,14 @@ impl Knapsack {
         let order = order_of(*items.allocator(), items.as_slice())?;
         let totals = totals_of(*items.allocator(), order.as_slice())?;
         let least_weights = least_weights_of(*items.allocator(), order.as_slice())?;
+        let reciprocals = reciprocals_of(*items.allocator(), order.as_slice())?;
         Ok(Knapsack {
             capacity,
             items,
             order,
             totals,
             least_weights,
+            reciprocals,
         })
     }
 
@@ -102,5 +108,13 @@ impl Knapsack {
         ensures { result.now ≡ all_least (searched_order self.now) }
     {
         self.least_weights.as_slice()
+    }
+
+    /// The reciprocal of the weight at each place of that order.
+    #[inline(always)]
+    pub(crate) fn reciprocals(&self) -> &[u64]
+        ensures { result.now ≡ all_reciprocals (searched_order self.now) }
+    {
+        self.reciprocals.as_slice()
     }
 }

@@ -13,6 +13,7 @@ mod least_weights;
 mod nodes;
 mod order;
 mod problem;
+mod quotients;
 mod reading;
 #[cfg(test)]
 mod tests;

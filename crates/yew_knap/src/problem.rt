@@ -121,6 +121,7 @@ impl Problem for Knapsack {
         let gain = greedy_gain(
             self.order(),
             self.totals(),
+            self.reciprocals(),
             node.next,
             node.breaking,
             node.room,
