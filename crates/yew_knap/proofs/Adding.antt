@@ -3,7 +3,7 @@ use Rattle.std.proofs.Common.{◌≡◌, ℕ, ◌+◌, ◌-◌, ◌*◌, ◌<◌
 use Rattle.std.specs.List.{AllByRecursion, sum_by}
 use Rattle.std.proofs.lemmas.List.{drop_more}
 use Rattle.std.proofs.lemmas.List.Sums.{sum_by-cons, sum_by-take-le}
-use Rattle.yew_knap.specs.declared.nodes.KnapNode.{KnapNode}
+use Rattle.yew_knap.specs.declared.nodes.KnapKids.{KnapKids}
 use Rattle.yew_knap.specs.declared.order.Numbered.{Numbered}
 use Rattle.yew_knap.specs.BoundLaws.{knapsack-bounded}
 use Rattle.yew_knap.specs.Instance.{Instance}
@@ -22,7 +22,7 @@ weights-small n (x ∷ xs) a =
     let own = a.0.2 in
     omega (arith, cons, rest, own)
 
-module _ (instance : Instance) (node : KnapNode) (place : ℕ) (within : place < length (searched_order instance)) (fits : (item_of (searched_order instance) place).weight ≤ node.room) (sound : IsNode instance (added instance node place (item_of (searched_order instance) place))) where
+module _ (instance : Instance) (kids : KnapKids) (place : ℕ) (within : place < length (searched_order instance)) (fits : (item_of (searched_order instance) place).weight ≤ kids.room) (sound : IsNode instance (added instance kids place (item_of (searched_order instance) place))) where
   item : Numbered
   item = item_of (searched_order instance) place
 
@@ -31,13 +31,10 @@ module _ (instance : Instance) (node : KnapNode) (place : ℕ) (within : place <
       item_small instance place (item_of (searched_order instance) place) (drop (place + 1) (searched_order instance))
       (drop_more (searched_order instance) place (record { profit = 0; weight = 0; index = 0 }) within) sound.limits
 
-  pub index-small : (item_of (searched_order instance) place).index < 256
-  index-small = let few = sound.limits.few in omega (arith, small.0, few)
+  pub profit-small : kids.profit + (item_of (searched_order instance) place).profit < 2 ^ 64
+  profit-small = omega (arith, (knapsack-bounded instance).fits (added instance kids place (item_of (searched_order instance) place)) sound)
 
-  pub profit-small : node.profit + (item_of (searched_order instance) place).profit < 2 ^ 64
-  profit-small = omega (arith, (knapsack-bounded instance).fits (added instance node place (item_of (searched_order instance) place)) sound)
-
-  pub room-small : weight_before (searched_order instance) place + node.room < 2 ^ 64
+  pub room-small : weight_before (searched_order instance) place + kids.room < 2 ^ 64
   room-small =
       let part = sum_by-take-le (λ (i : Numbered). i.weight) (searched_order instance) place in
       let all = weights-small (length instance.items) (searched_order instance) (searched_order-small instance sound.limits) in
@@ -47,13 +44,13 @@ module _ (instance : Instance) (node : KnapNode) (place : ℕ) (within : place <
       let room = sound.room_is in
       omega (arith, part, all, long, few, light, room, small.2, fits)
 
-  pub fits-with : weight_before (searched_order instance) (place + 1) ≤ weight_before (searched_order instance) place + node.room
+  pub fits-with : weight_before (searched_order instance) (place + 1) ≤ weight_before (searched_order instance) place + kids.room
   fits-with = omega (arith, weight_before-more (searched_order instance) place within, fits)
 
   -- taking items from the front, within the room and the weight of the items in front, ends where it ends from the place on
-  pub breaking-added : breaking_place (weight_before (searched_order instance) place + node.room) 0 (searched_order instance) ≡ (added instance node place (item_of (searched_order instance) place)).breaking
+  pub breaking-added : breaking_place (weight_before (searched_order instance) place + kids.room) 0 (searched_order instance) ≡ (added instance kids place (item_of (searched_order instance) place)).breaking
   breaking-added =
       let more = weight_before-more (searched_order instance) place within in
-      let left : weight_before (searched_order instance) place + node.room - weight_before (searched_order instance) (place + 1) ≡ node.room - (item_of (searched_order instance) place).weight = omega (arith, more, fits) in
-      from_front (searched_order instance) (weight_before (searched_order instance) place + node.room) (place + 1) (omega arith) fits-with
+      let left : weight_before (searched_order instance) place + kids.room - weight_before (searched_order instance) (place + 1) ≡ kids.room - (item_of (searched_order instance) place).weight = omega (arith, more, fits) in
+      from_front (searched_order instance) (weight_before (searched_order instance) place + kids.room) (place + 1) (omega arith) fits-with
       ∙ ap (λ r. breaking_place r (place + 1) (drop (place + 1) (searched_order instance))) left

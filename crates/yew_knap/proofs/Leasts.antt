@@ -5,7 +5,7 @@ use Rattle.std.proofs.lemmas.Bool.{lt-leb}
 use Rattle.std.proofs.lemmas.Bool.Decides.{nat_tests}
 use Rattle.std.proofs.lemmas.List.{drop_more}
 use Rattle.yew_laws.proofs.Members.{AllByRecursion-weaker}
-use Rattle.yew_knap.specs.declared.nodes.KnapNode.{KnapNode}
+use Rattle.yew_knap.specs.declared.nodes.KnapKids.{KnapKids}
 use Rattle.yew_knap.specs.declared.order.Numbered.{Numbered}
 use Rattle.yew_knap.specs.Instance.{Instance}
 use Rattle.yew_knap.specs.LeastWeights.{least_weight, all_least}
@@ -34,18 +34,18 @@ all_least-at [] place l = absurd (omega arith)
 all_least-at (x ∷ xs) zero l = refl
 all_least-at (x ∷ xs) (suc place) l = all_least-at xs place (omega arith)
 
-with_one_more-none : (instance : Instance) (node : KnapNode) (place : ℕ) (items : List Numbered) → AllByRecursion (λ item. node.room < item.weight) items → with_one_more instance node place items ≡ []
-with_one_more-none instance node place [] a = refl
-with_one_more-none instance node place (item ∷ items) a =
-    ap (λ b. if b then added instance node place item ∷ with_one_more instance node (place + 1) items else with_one_more instance node (place + 1) items) (lt-leb item.weight node.room a.0)
-    ∙ with_one_more-none instance node (place + 1) items a.1
+with_one_more-none : (instance : Instance) (kids : KnapKids) (place : ℕ) (items : List Numbered) → AllByRecursion (λ item. kids.room < item.weight) items → with_one_more instance kids place items ≡ []
+with_one_more-none instance kids place [] a = refl
+with_one_more-none instance kids place (item ∷ items) a =
+    ap (λ b. if b then added instance kids place item ∷ with_one_more instance kids (place + 1) items else with_one_more instance kids (place + 1) items) (lt-leb item.weight kids.room a.0)
+    ∙ with_one_more-none instance kids (place + 1) items a.1
 
-pub none_fits : (instance : Instance) (node : KnapNode) (items : List Numbered) (place : ℕ) → place < length items → node.room < get_or (all_least items) place 0 → with_one_more instance node place (drop place items) ≡ []
-none_fits instance node items place within light =
+pub none_fits : (instance : Instance) (kids : KnapKids) (items : List Numbered) (place : ℕ) → place < length items → kids.room < get_or (all_least items) place 0 → with_one_more instance kids place (drop place items) ≡ []
+none_fits instance kids items place within light =
     let item = item_of items place in
     let next : place + 1 ≡ suc place = omega arith in
     let at : get_or (all_least items) place 0 ≡ least_weight item.weight (drop (place + 1) items) = all_least-at items place within ∙ ap (λ k. least_weight item.weight (drop k items)) (sym next) in
     let own = least_weight-le item.weight (drop (place + 1) items) in
-    ap (with_one_more instance node place) (drop_more items place (record { profit = 0; weight = 0; index = 0 }) within)
-    ∙ with_one_more-none instance node place (item ∷ drop (place + 1) items)
-    (omega (arith, at, own, light), AllByRecursion-weaker (λ y. least_weight item.weight (drop (place + 1) items) ≤ y.weight) (λ y. node.room < y.weight) (λ y l. omega (arith, at, light, l)) (drop (place + 1) items) (least_weight-all item.weight (drop (place + 1) items)))
+    ap (with_one_more instance kids place) (drop_more items place (record { profit = 0; weight = 0; index = 0 }) within)
+    ∙ with_one_more-none instance kids place (item ∷ drop (place + 1) items)
+    (omega (arith, at, own, light), AllByRecursion-weaker (λ y. least_weight item.weight (drop (place + 1) items) ≤ y.weight) (λ y. kids.room < y.weight) (λ y l. omega (arith, at, light, l)) (drop (place + 1) items) (least_weight-all item.weight (drop (place + 1) items)))

@@ -14,27 +14,27 @@ impl Knapsack {
     ghost use Rattle.yew_knap.specs.Nodes.{added, item_of, IsNode};
     ghost use Rattle.yew_knap.specs.SearchedOrder.{searched_order};
 
-    /// A node's set with the item at a place of the searched order, which fits. Its breaking place is likely the given one
-    /// or one soon behind it.
+    /// The set with one more item, that at a place of the searched order, which fits.
     #[inline(always)]
-    fn with(&self, node: &KnapNode, place: usize, likely: usize) -> KnapNode
+    fn with(&self, kids: &KnapKids, place: usize) -> KnapNode
         requires within { place < length (searched_order self.now) }
-        requires fits { (item_of (searched_order self.now) place).weight ≤ node.now.room }
-        requires sound { IsNode self.now (added self.now node.now place (item_of (searched_order self.now) place)) }
-        ensures { result ≡ added self.now node.now place (item_of (searched_order self.now) place) }
+        requires fits { (item_of (searched_order self.now) place).weight ≤ kids.now.room }
+        requires sound { IsNode self.now (added self.now kids.now place (item_of (searched_order self.now) place)) }
+        ensures { result ≡ added self.now kids.now place (item_of (searched_order self.now) place) }
     {
         let order = self.order();
         let totals = self.totals();
         let next = place + 1;
         // Together with all items in front of the place, so that the totals tell which items fit.
-        let room = totals[place].weight + node.room;
+        let room = totals[place].weight + kids.room;
         let item = &order[place];
         KnapNode {
-            profit: node.profit + item.profit as u64,
-            room: node.room - item.weight as u64,
+            profit: kids.profit + item.profit as u64,
+            room: kids.room - item.weight as u64,
             next,
-            breaking: find_breaking(order, totals, likely, next, room),
-            chosen: node.chosen.with(item.index),
+            breaking: find_breaking(order, totals, kids.breaking, next, room),
+            earlier: kids.chosen,
+            last: Some(item.index),
         }
     }
 }
@@ -77,16 +77,19 @@ impl Problem for Knapsack {
             room: capacity,
             next: 0,
             breaking: find_breaking(self.order(), self.totals(), 0, 0, capacity),
-            chosen: ItemSet::empty(),
+            earlier: ItemSet::empty(),
+            last: None,
         })
     }
 
     #[inline(always)]
     fn open(&self, _alloc: Global, node: KnapNode) -> Result<KnapKids, Memory> {
         Ok(KnapKids {
+            profit: node.profit,
+            room: node.room,
             next: node.next,
             breaking: node.breaking,
-            parent: node,
+            chosen: node.items(),
         })
     }
 
@@ -96,13 +99,13 @@ impl Problem for Knapsack {
         let least_weights = self.least_weights();
         for place in kids.next..order.len() {
             let item = &order[place];
-            if item.weight as u64 <= kids.parent.room {
-                let node = self.with(&kids.parent, place, kids.breaking);
+            if item.weight as u64 <= kids.room {
+                let node = self.with(kids, place);
                 kids.next = node.next;
                 kids.breaking = node.breaking;
                 return Ok(Some(node));
             }
-            if kids.parent.room < least_weights[place] as u64 {
+            if kids.room < least_weights[place] as u64 {
                 kids.next = order.len();
                 return Ok(None);
             }
