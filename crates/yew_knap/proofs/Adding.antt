@@ -11,7 +11,7 @@ use Rattle.yew_knap.specs.NodeLaws.{item_small}
 use Rattle.yew_knap.specs.Nodes.{added, breaking_place, item_of, IsNode}
 use Rattle.yew_knap.specs.OrderLaws.{IsSmallNumbered, length-searched_order, searched_order-small}
 use Rattle.yew_knap.specs.SearchedOrder.{searched_order}
-use Rattle.yew_knap.specs.Totals.{weight_before}
+use Rattle.yew_knap.specs.Places.{weight_before}
 use Rattle.yew_knap.proofs.Breaking.{weight_before-more, from_front}
 
 weights-small : (n : ℕ) (items : List Numbered) → AllByRecursion (IsSmallNumbered n) items → sum_by (λ item. item.weight) items ≤ length items * 2 ^ 31
@@ -34,7 +34,7 @@ module _ (instance : Instance) (kids : KnapKids) (place : ℕ) (within : place <
   pub profit-small : kids.profit + (item_of (searched_order instance) place).profit < 2 ^ 64
   profit-small = omega (arith, (knapsack-bounded instance).fits (added instance kids place (item_of (searched_order instance) place)) sound)
 
-  pub room-small : weight_before (searched_order instance) place + kids.room < 2 ^ 64
+  pub room-small : weight_before (searched_order instance) place + kids.room + 1 < 2 ^ 64
   room-small =
       let part = sum_by-take-le (λ (i : Numbered). i.weight) (searched_order instance) place in
       let all = weights-small (length instance.items) (searched_order instance) (searched_order-small instance sound.limits) in

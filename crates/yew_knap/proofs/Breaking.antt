@@ -5,7 +5,7 @@ use Rattle.std.proofs.lemmas.List.{drop_more, drop_all}
 use Rattle.std.proofs.lemmas.List.Sums.{sum_by_more}
 use Rattle.yew_knap.specs.declared.order.Numbered.{Numbered}
 use Rattle.yew_knap.specs.Nodes.{breaking_place, item_of}
-use Rattle.yew_knap.specs.Totals.{weight_before}
+use Rattle.yew_knap.specs.Places.{weight_before}
 
 module _ (items : List Numbered) where
   pub weight_before-more : (k : ℕ) → k < length items → weight_before items (k + 1) ≡ weight_before items k + (item_of items k).weight

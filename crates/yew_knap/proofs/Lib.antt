@@ -13,7 +13,7 @@ mod Nexts
 mod NumberSets
 mod OrderIs
 pub mod Packs
+mod PlaceTable
 mod Reciprocals
 mod Rights
-mod Sums
 mod Ways

@@ -1,19 +1,8 @@
 -- A quotient by a reciprocal.
-use Rattle.std.proofs.Common.{◌≡◌, ℕ, zero, suc, ◌+◌, ◌-◌, ◌*◌, ◌/◌, ◌<◌, ◌≤◌, ◌^◌, ◌∙◌, List, [], ◌∷◌, length, get_or, refl, ap, arith}
+use Rattle.std.proofs.Common.{◌≡◌, ℕ, ◌+◌, ◌-◌, ◌*◌, ◌/◌, ◌<◌, ◌≤◌, ◌^◌, ◌∙◌, arith}
 use Rattle.std.proofs.Math.Nat.{mul-le-mul_left, mul-le-mul_right, div-mul-le_self, lt-div-mul-add, le-div_iff_mul-le, div-lt_iff_lt-mul}
 use Rattle.std.proofs.lemmas.Bool.Decides.{nat_tests}
-use Rattle.yew_knap.specs.declared.order.Numbered.{Numbered}
-use Rattle.yew_knap.specs.Nodes.{item_of}
-use Rattle.yew_knap.specs.Quotients.{reciprocal_of, all_reciprocals}
-
-pub length-all_reciprocals : (items : List Numbered) → length (all_reciprocals items) ≡ length items
-length-all_reciprocals [] = refl
-length-all_reciprocals (x ∷ xs) = ap suc (length-all_reciprocals xs)
-
-pub all_reciprocals-at : (items : List Numbered) (place : ℕ) → place < length items → get_or (all_reciprocals items) place 0 ≡ reciprocal_of (item_of items place).weight
-all_reciprocals-at [] place l = absurd (omega arith)
-all_reciprocals-at (x ∷ xs) zero l = refl
-all_reciprocals-at (x ∷ xs) (suc place) l = all_reciprocals-at xs place (omega arith)
+use Rattle.yew_knap.specs.Places.{reciprocal_of}
 
 reciprocal_is : (w : ℕ) → 0 < w → reciprocal_of w ≡ (2 ^ 64 - 1) / w
 reciprocal_is w weighs = grind (arith, nat_tests)

@@ -4,14 +4,12 @@ pub mod Files
 pub mod Instance
 pub mod ItemSetLaws
 pub mod ItemSets
-pub mod LeastWeights
 pub mod Lists
 pub mod NodeLaws
 pub mod Nodes
 pub mod OrderLaws
 pub mod Packings
-pub mod Quotients
+pub mod Places
 pub mod Reading
 pub mod SearchedOrder
 pub mod Texts
-pub mod Totals

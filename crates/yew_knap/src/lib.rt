@@ -9,16 +9,15 @@ mod bounds;
 mod item_sets;
 mod knapsack;
 pub mod laws;
-mod least_weights;
 mod nodes;
 mod order;
+mod places;
 mod problem;
 mod quotients;
 mod reading;
 #[cfg(test)]
 mod tests;
 mod texts;
-mod totals;
 
 pub use knapsack::Knapsack;
 pub use nodes::{KnapKids, KnapNode};

@@ -2,11 +2,9 @@
 
 ghost use Rattle.std.specs.Prelude.{◌≡◌, ◌<◌, ◌≤◌, length};
 
-use crate::bounds::greedy_gain;
 use crate::item_sets::ItemSet;
 use crate::knapsack::Knapsack;
 use crate::nodes::{KnapKids, KnapNode};
-use crate::totals::find_breaking;
 use std::alloc::Global;
 use yew_laws::{Memory, Problem};
 
@@ -22,19 +20,17 @@ impl Knapsack {
         requires sound { IsNode self.now (added self.now kids.now place (item_of (searched_order self.now) place)) }
         ensures { result ≡ added self.now kids.now place (item_of (searched_order self.now) place) }
     {
-        let order = self.order();
-        let totals = self.totals();
+        let here = &self.places()[place];
         let next = place + 1;
-        // Together with all items in front of the place, so that the totals tell which items fit.
-        let room = totals[place].weight + kids.room;
-        let item = &order[place];
+        // Together with all items in front of the place, so that the places tell which items fit.
+        let room = here.weight_before + kids.room;
         KnapNode {
-            profit: kids.profit + item.profit as u64,
-            room: kids.room - item.weight as u64,
+            profit: kids.profit + here.profit as u64,
+            room: kids.room - here.weight as u64,
             next,
-            breaking: find_breaking(order, totals, kids.breaking, next, room),
+            breaking: self.find_breaking(kids.breaking, next, room),
             earlier: kids.chosen,
-            last: Some(item.index),
+            last: Some(here.index),
         }
     }
 }
@@ -76,7 +72,7 @@ impl Problem for Knapsack {
             profit: 0,
             room: capacity,
             next: 0,
-            breaking: find_breaking(self.order(), self.totals(), 0, 0, capacity),
+            breaking: self.find_breaking(0, 0, capacity),
             earlier: ItemSet::empty(),
             last: None,
         })
@@ -95,22 +91,22 @@ impl Problem for Knapsack {
 
     #[inline(always)]
     fn next(&self, _alloc: Global, kids: &mut KnapKids) -> Result<Option<KnapNode>, Memory> {
-        let order = self.order();
-        let least_weights = self.least_weights();
-        for place in kids.next..order.len() {
-            let item = &order[place];
-            if item.weight as u64 <= kids.room {
+        let places = self.places();
+        let end = self.order().len();
+        for place in kids.next..end {
+            let here = &places[place];
+            if here.weight as u64 <= kids.room {
                 let node = self.with(kids, place);
                 kids.next = node.next;
                 kids.breaking = node.breaking;
                 return Ok(Some(node));
             }
-            if kids.room < least_weights[place] as u64 {
-                kids.next = order.len();
+            if kids.room < here.least_weight as u64 {
+                kids.next = end;
                 return Ok(None);
             }
         }
-        kids.next = order.len();
+        kids.next = end;
         Ok(None)
     }
 
@@ -121,14 +117,7 @@ impl Problem for Knapsack {
 
     #[inline(always)]
     fn bound(&self, node: &KnapNode) -> u64 {
-        let gain = greedy_gain(
-            self.order(),
-            self.totals(),
-            self.reciprocals(),
-            node.next,
-            node.breaking,
-            node.room,
-        );
+        let gain = self.greedy_gain(node.next, node.breaking, node.room);
         node.profit + gain + 1
     }
 }

@@ -1,15 +1,11 @@
 //! Quotients by the weights of items without a division, which takes some 30 cycles: each weight's reciprocal is kept, a number
 //! is multiplied by it, and the product's upper half is the quotient or 1 less.
 
-ghost use Rattle.std.specs.Prelude.{◌≡◌, ◌<◌, ◌/◌, IfOk};
-ghost use Rattle.yew_knap.specs.Quotients.{reciprocal_of, all_reciprocals};
-
-use crate::order::Numbered;
-use std::alloc::Global;
-use yew_laws::Memory;
+ghost use Rattle.std.specs.Prelude.{◌≡◌, ◌<◌, ◌/◌};
+ghost use Rattle.yew_knap.specs.Places.{reciprocal_of};
 
 /// The reciprocal of a weight, in parts of 2^64: 2^64 - 1 divided by the weight, rounded down, and 0 for no weight.
-fn reciprocal_of(weight: u32) -> u64
+pub fn reciprocal_of(weight: u32) -> u64
     ensures { result ≡ reciprocal_of weight }
 {
     if weight == 0 {
@@ -17,17 +13,6 @@ fn reciprocal_of(weight: u32) -> u64
     } else {
         u64::MAX / weight as u64
     }
-}
-
-/// The reciprocals of the weights of items.
-pub fn reciprocals_of(alloc: Global, items: &[Numbered]) -> Result<Vec<u64>, Memory>
-    ensures { IfOk result (λ reciprocals. reciprocals.items ≡ all_reciprocals items.now) }
-{
-    let mut reciprocals = Vec::with_capacity(alloc, items.len())?;
-    for item in items {
-        reciprocals.push(reciprocal_of(item.weight))?;
-    }
-    Ok(reciprocals)
 }
 
 /// A number divided by a weight, rounded down, by the weight's reciprocal.
