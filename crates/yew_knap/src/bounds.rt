@@ -26,9 +26,9 @@ impl Knapsack {
         sure
     }
 
-    /// The first place whose item does not fit where the items are taken in the searched order within a room, and the end
-    /// where all fit. The items in front of `sure` are known to fit; the search begins at `likely` where those in front of
-    /// that fit.
+    /// The first place whose item does not fit where the items are taken in the searched order within a room, and the
+    /// end where all fit. The items in front of `sure` are known to fit; the search begins at `likely` where those in
+    /// front of that fit.
     #[inline(always)]
     pub(crate) fn find_breaking(&self, likely: usize, sure: usize, room: u64) -> usize
         requires sure { sure ≤ length (searched_order self.now) }
@@ -44,9 +44,10 @@ impl Knapsack {
         place
     }
 
-    /// The most profit that the items from a place on can add within a room, if parts of items could be taken: each item
-    /// while it fits, and then, of the first one that does not fit, which stands at `breaking`, the whole part of its profit
-    /// times the room left divided by its weight. The items that fit are summed by what stands in front of both places.
+    /// The most profit that the items from a place on can add within a room, if parts of items could be taken: each
+    /// item while it fits, and then, of the first one that does not fit, which stands at `breaking`, the whole part of
+    /// its profit times the room left divided by its weight. The items that fit are summed by what stands in front of
+    /// both places.
     #[inline(always)]
     pub(crate) fn greedy_gain(&self, next: usize, breaking: usize, room: u64) -> u64
         requires limits { IsWithinLimits self.now }

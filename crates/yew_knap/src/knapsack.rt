@@ -36,7 +36,8 @@ impl Model for Knapsack {
 
     ghost view = { λ a. record { capacity = a.capacity; items = a.items.items } };
 
-    ghost invariant = { λ a. (a.order.items ≡ all_placed [] 0 a.items.items) × (a.places.items ≡ all_places 0 0 a.order.items) };
+    ghost invariant = { λ a. (a.order.items ≡ all_placed [] 0 a.items.items)
+        × (a.places.items ≡ all_places 0 0 a.order.items) };
 }
 
 impl Knapsack {

@@ -4,9 +4,9 @@ ghost use Rattle.std.specs.Prelude.{◌≡◌, ◌<◌, IfSome};
 
 use crate::item_sets::ItemSet;
 
-/// A set of items that can be carried: its total profit, the weight that may still be added, the place in the searched order
-/// after the item that was added last, and the first place from there on whose item does not fit where the items are taken
-/// in order.
+/// A set of items that can be carried: its total profit, the weight that may still be added, the place in the searched
+/// order after the item that was added last, and the first place from there on whose item does not fit where the items
+/// are taken in order.
 #[derive(Clone, Copy, Debug, PartialEq, Eq)]
 pub struct KnapNode {
     pub(crate) profit: u64,
@@ -35,11 +35,11 @@ impl KnapNode {
     }
 }
 
-/// The sets with one more item that are still to come: the set without it, with its total profit and the weight that may
-/// still be added, and the place of the next item to try.
+/// The sets with one more item that are still to come: the set without it, with its total profit and the weight that
+/// may still be added, and the place of the next item to try.
 ///
-/// The breaking place of each child is no earlier than that of its parent and of the child before it. So it is looked for
-/// from the one that was found last.
+/// The breaking place of each child is no earlier than that of its parent and of the child before it. So it is looked
+/// for from the one that was found last.
 #[derive(Clone, Copy, Debug, PartialEq, Eq)]
 pub struct KnapKids {
     pub(crate) profit: u64,

@@ -1,5 +1,5 @@
-//! Quotients by the weights of items without a division, which takes some 30 cycles: each weight's reciprocal is kept, a number
-//! is multiplied by it, and the product's upper half is the quotient or 1 less.
+//! Quotients by the weights of items without a division, which takes some 30 cycles: each weight's reciprocal is kept, a
+//! number is multiplied by it, and the product's upper half is the quotient or 1 less.
 
 ghost use Rattle.std.specs.Prelude.{◌≡◌, ◌<◌, ◌/◌};
 ghost use Rattle.yew_knap.specs.Places.{reciprocal_of};
