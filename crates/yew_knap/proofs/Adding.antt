@@ -23,9 +23,6 @@ weights-small n (x ∷ xs) a =
     omega (arith, cons, rest, own)
 
 module _ (instance : Instance) (kids : KnapKids) (place : ℕ) (within : place < length (searched_order instance)) (fits : (item_of (searched_order instance) place).weight ≤ kids.room) (sound : IsNode instance (added instance kids place (item_of (searched_order instance) place))) where
-  item : Numbered
-  item = item_of (searched_order instance) place
-
   small : IsSmallNumbered (length instance.items) (item_of (searched_order instance) place)
   small =
       item_small instance place (item_of (searched_order instance) place) (drop (place + 1) (searched_order instance))

@@ -100,7 +100,6 @@ pub record Gains (items : List Numbered) (places : List Place) (next breaking ro
 module _ (items : List Numbered) (places : List Place) (are : places ≡ all_places 0 0 items) (n : ℕ) (small : AllByRecursion (IsSmallNumbered n) items) (next room : ℕ) (within : next ≤ length items) where
   at_count : (t : Taken room next (drop next items)) → Gains items places next (next + t.count) room
   at_count t =
-      let end = next + t.count in
       let long : length (drop next items) ≡ length items - next = length-drop next items in
       let short = t.within in
       let p_next = profit-at items places are next within in
