@@ -11,7 +11,7 @@ use Rattle.yew_knap.specs.declared.order.Numbered.{Numbered}
 use Rattle.yew_knap.specs.Answers.{IsPacked}
 use Rattle.yew_knap.specs.Instance.{Instance}
 use Rattle.yew_knap.specs.ItemSets.{has_item}
-use Rattle.yew_knap.specs.Nodes.{chosen_of, amount_in, IsNode}
+use Rattle.yew_knap.specs.Nodes.{chosen_of, amount_in, IsNode, items_of}
 use Rattle.yew_knap.specs.OrderLaws.{only_item, sum_by-searched_order}
 use Rattle.yew_knap.specs.Packings.{item_at, profit_of, weight_of}
 use Rattle.yew_knap.specs.SearchedOrder.{numbered, all_numbered, searched_order}
@@ -53,13 +53,13 @@ module _ (instance : Instance) (test : ℕ → Bool) (of_item : Item → ℕ) (o
       sum_from 0 instance.items refl ∙ sym (sum_by-searched_order instance (λ y. if test y.index then of_numbered y else 0))
 
 module _ (instance : Instance) (node : KnapNode) where
-  pub profit_of-chosen : profit_of instance (chosen_of instance node) ≡ sum_by (amount_in (λ item. item.profit) node.chosen) (searched_order instance)
+  pub profit_of-chosen : profit_of instance (chosen_of instance node) ≡ sum_by (amount_in (λ item. item.profit) (items_of node)) (searched_order instance)
   profit_of-chosen =
-      sum_by-picked instance (has_item node.chosen) (λ item. item.profit) (λ item. item.profit) (λ k item. refl)
+      sum_by-picked instance (has_item (items_of node)) (λ item. item.profit) (λ item. item.profit) (λ k item. refl)
 
-  weight_of-chosen : weight_of instance (chosen_of instance node) ≡ sum_by (amount_in (λ item. item.weight) node.chosen) (searched_order instance)
+  weight_of-chosen : weight_of instance (chosen_of instance node) ≡ sum_by (amount_in (λ item. item.weight) (items_of node)) (searched_order instance)
   weight_of-chosen =
-      sum_by-picked instance (has_item node.chosen) (λ item. item.weight) (λ item. item.weight) (λ k item. refl)
+      sum_by-picked instance (has_item (items_of node)) (λ item. item.weight) (λ item. item.weight) (λ k item. refl)
 
   -- the set of a node can be carried, and its profit is the node's worth less 1
   pub node-packed : IsNode instance node → IsPacked instance node
@@ -67,7 +67,7 @@ module _ (instance : Instance) (node : KnapNode) where
     packs =
         let room = sound.room_is in
         and_from (is_set 1 (length instance.items) (chosen_of instance node)) (nat_le (weight_of instance (chosen_of instance node)) instance.capacity)
-        (filter-set (λ number. has_item node.chosen (number - 1)) (length instance.items))
+        (filter-set (λ number. has_item (items_of node) (number - 1)) (length instance.items))
         (le-leb (weight_of instance (chosen_of instance node)) instance.capacity (omega (arith, weight_of-chosen, room)));
     worth = let e = sound.profit_is in omega (arith, e, profit_of-chosen);
   }

@@ -7,19 +7,20 @@ use Rattle.std.proofs.lemmas.Option.{same_Some, none-some, option_and_then_some}
 use Rattle.yew_laws.specs.Tree.{node_at}
 use Rattle.yew_laws.proofs.Members.{AllByRecursion-weaker, AllByRecursion-at}
 use Rattle.yew_knap.specs.declared.nodes.KnapNode.{KnapNode}
+use Rattle.yew_knap.specs.declared.nodes.KnapKids.{KnapKids}
 use Rattle.yew_knap.specs.declared.order.Numbered.{Numbered}
 use Rattle.yew_knap.specs.BoundLaws.{Grows, grows-along}
 use Rattle.yew_knap.specs.Instance.{Instance}
 use Rattle.yew_knap.specs.ItemSets.{has_item, with_item}
 use Rattle.yew_knap.specs.NodeLaws.{IsOther, IsNext, IsAdded, item_small, others_before, has_added, none_from, absent, child-at, added-sound}
-use Rattle.yew_knap.specs.Nodes.{added, with_one_more, children_of, IsNode}
+use Rattle.yew_knap.specs.Nodes.{added, with_one_more, children_of, IsNode, items_of, opened}
 use Rattle.yew_knap.specs.SearchedOrder.{searched_order}
 
-nexts-above : (node : KnapNode) (place : ℕ) (items : List Numbered) → AllByRecursion (λ c. place < c.next) (with_one_more node place items)
-nexts-above node place [] = tt
-nexts-above node place (item ∷ items) =
-    let rest = AllByRecursion-weaker (λ (c : KnapNode). place + 1 < c.next) (λ c. place < c.next) (λ c l. omega (arith, l)) (with_one_more node (place + 1) items) (nexts-above node (place + 1) items) in
-    elim (nat_le item.weight node.room) as (λ b. AllByRecursion (λ (c : KnapNode). place < c.next) (if b then added node place item ∷ with_one_more node (place + 1) items else with_one_more node (place + 1) items)) [
+nexts-above : (instance : Instance) (kids : KnapKids) (place : ℕ) (items : List Numbered) → AllByRecursion (λ c. place < c.next) (with_one_more instance kids place items)
+nexts-above instance kids place [] = tt
+nexts-above instance kids place (item ∷ items) =
+    let rest = AllByRecursion-weaker (λ (c : KnapNode). place + 1 < c.next) (λ c. place < c.next) (λ c l. omega (arith, l)) (with_one_more instance kids (place + 1) items) (nexts-above instance kids (place + 1) items) in
+    elim (nat_le item.weight kids.room) as (λ b. AllByRecursion (λ (c : KnapNode). place < c.next) (if b then added instance kids place item ∷ with_one_more instance kids (place + 1) items else with_one_more instance kids (place + 1) items)) [
       | true ↦ (omega arith, rest)
       | false ↦ rest
     ]
@@ -42,12 +43,12 @@ one_child-cons child rest above one (suc j) zero c d e f same =
     absurd (omega (arith, l, n, same))
 one_child-cons child rest above one (suc j) (suc k) c d e f same = ap suc (one j k c d e f same)
 
-one_child : (node : KnapNode) (place : ℕ) (items : List Numbered) → OneChild (with_one_more node place items)
-one_child node place [] = λ j k c d e f same. absurd (none-some c e)
-one_child node place (item ∷ items) =
-    elim (nat_le item.weight node.room) as (λ b. OneChild (if b then added node place item ∷ with_one_more node (place + 1) items else with_one_more node (place + 1) items)) [
-      | true ↦ one_child-cons (added node place item) (with_one_more node (place + 1) items) (nexts-above node (place + 1) items) (one_child node (place + 1) items)
-      | false ↦ one_child node (place + 1) items
+one_child : (instance : Instance) (kids : KnapKids) (place : ℕ) (items : List Numbered) → OneChild (with_one_more instance kids place items)
+one_child instance kids place [] = λ j k c d e f same. absurd (none-some c e)
+one_child instance kids place (item ∷ items) =
+    elim (nat_le item.weight kids.room) as (λ b. OneChild (if b then added instance kids place item ∷ with_one_more instance kids (place + 1) items else with_one_more instance kids (place + 1) items)) [
+      | true ↦ one_child-cons (added instance kids place item) (with_one_more instance kids (place + 1) items) (nexts-above instance kids (place + 1) items) (one_child instance kids (place + 1) items)
+      | false ↦ one_child instance kids (place + 1) items
     ]
 
 take_at_place : {X : Type 0} (P : X → Type 0) (xs : List X) (k n : ℕ) (y : X) (ys : List X) → drop k xs ≡ y ∷ ys → k < n → AllByRecursion P (take n xs) → P y
@@ -60,32 +61,32 @@ take_at_place P (x ∷ xs) (suc k) (suc n) y ys e l a = take_at_place P xs k n y
 
 module _ (instance : Instance) where
   -- what lies at or below a child has the item that the child adds
-  has_own : (node below : KnapNode) → IsNode instance node → (place : ℕ) (item : Numbered) (after : List Numbered) → IsNext instance node place item after → Grows instance (added node place item) below → has_item below.chosen item.index ≡ true
+  has_own : (node below : KnapNode) → IsNode instance node → (place : ℕ) (item : Numbered) (after : List Numbered) → IsNext instance node place item after → Grows instance (added instance (opened node) place item) below → has_item (items_of below) item.index ≡ true
   has_own node below sound place item after next grows =
-      take_at_place (λ y. has_item below.chosen y.index ≡ has_item (with_item node.chosen item.index) y.index) (searched_order instance) place (place + 1) item after next.at (omega arith) grows.agrees
-      ∙ has_added instance place item after next.at node.chosen sound.size sound.limits item.index
-      ∙ itself (has_item node.chosen item.index) item.index
+      take_at_place (λ y. has_item (items_of below) y.index ≡ has_item (with_item (items_of node) item.index) y.index) (searched_order instance) place (place + 1) item after next.at (omega arith) grows.agrees
+      ∙ has_added instance place item after next.at (items_of node) sound.size sound.limits item.index
+      ∙ itself (has_item (items_of node) item.index) item.index
     where
       itself : (b : Bool) (k : ℕ) → (b || k == k) ≡ true
       itself b k = grind (arith, nat_tests)
 
   -- and none of those that the child leaves out
-  lacks_earlier : (node below : KnapNode) → IsNode instance node → (place : ℕ) (item : Numbered) (after : List Numbered) → IsNext instance node place item after → Grows instance (added node place item) below → (earlier : ℕ) (other : Numbered) (others : List Numbered) → node.next ≤ earlier → earlier < place → drop earlier (searched_order instance) ≡ other ∷ others → has_item below.chosen other.index ≡ false
+  lacks_earlier : (node below : KnapNode) → IsNode instance node → (place : ℕ) (item : Numbered) (after : List Numbered) → IsNext instance node place item after → Grows instance (added instance (opened node) place item) below → (earlier : ℕ) (other : Numbered) (others : List Numbered) → node.next ≤ earlier → earlier < place → drop earlier (searched_order instance) ≡ other ∷ others → has_item (items_of below) other.index ≡ false
   lacks_earlier node below sound place item after next grows earlier other others from before at =
       let apart : IsOther item.index other = take_at_place (IsOther item.index) (searched_order instance) earlier place other others at before (others_before instance place item after next.at) in
-      let none : has_item node.chosen other.index ≡ false = (subst (AllByRecursion (λ y. has_item node.chosen y.index ≡ false)) at (none_from instance node sound earlier from)).0 in
-      take_at_place (λ y. has_item below.chosen y.index ≡ has_item (with_item node.chosen item.index) y.index) (searched_order instance) earlier (place + 1) other others at (omega arith) grows.agrees
-      ∙ has_added instance place item after next.at node.chosen sound.size sound.limits other.index
-      ∙ neither (has_item node.chosen other.index) (other.index == item.index) none apart
+      let none : has_item (items_of node) other.index ≡ false = (subst (AllByRecursion (λ y. has_item (items_of node) y.index ≡ false)) at (none_from instance node sound earlier from)).0 in
+      take_at_place (λ y. has_item (items_of below) y.index ≡ has_item (with_item (items_of node) item.index) y.index) (searched_order instance) earlier (place + 1) other others at (omega arith) grows.agrees
+      ∙ has_added instance place item after next.at (items_of node) sound.size sound.limits other.index
+      ∙ neither (has_item (items_of node) other.index) (other.index == item.index) none apart
     where
       neither : (a b : Bool) → a ≡ false → b ≡ false → (a || b) ≡ false
       neither a b x y = grind (arith, nat_tests)
 
   -- two nodes have the same items of the file
   abbrev pub SameItems : KnapNode → KnapNode → Type 0
-  SameItems a b = (k : ℕ) → k < length instance.items → has_item a.chosen k ≡ has_item b.chosen k
+  SameItems a b = (k : ℕ) → k < length instance.items → has_item (items_of a) k ≡ has_item (items_of b) k
 
-  child_grows : (node child below : KnapNode) (ks : List ℕ) → IsNode instance node → (a : IsAdded instance node child) → node_at (children_of instance) child ks ≡ Some below → Grows instance (added node a.place a.item) below
+  child_grows : (node child below : KnapNode) (ks : List ℕ) → IsNode instance node → (a : IsAdded instance node child) → node_at (children_of instance) child ks ≡ Some below → Grows instance (added instance (opened node) a.place a.item) below
   child_grows node child below ks sound a e =
       subst (λ c. Grows instance c below) a.is (grows-along instance ks child below (added-sound instance node child sound a) e)
 
@@ -130,7 +131,7 @@ module _ (instance : Instance) where
       let y = child-at instance node k d at_d in
       elim (cases_order x.place y.place) [
         | inl level ↦
-            let number : j ≡ k = one_child node node.next (drop node.next (searched_order instance)) j k c d at at_d (same_next node c d x y level) in
+            let number : j ≡ k = one_child instance (opened node) node.next (drop node.next (searched_order instance)) j k c d at at_d (same_next node c d x y level) in
             let child : c ≡ d = same_Some c d (sym at ∙ ap (slice_get (children_of instance node)) number ∙ at_d) in
             let tail : js ≡ ks = one_path js ks c a b (added-sound instance node c sound x) rest (subst (λ n. node_at (children_of instance) n ks ≡ Some b) (sym child) rest_d) same in
             ap₂ (λ (m : ℕ) (ms : List ℕ). m ∷ ms) number tail

@@ -15,7 +15,7 @@ use Rattle.yew_knap.specs.Answers.{knapsack_tree, IsPacked, IsFound, TreePacks}
 use Rattle.yew_knap.specs.Instance.{Instance, IsWithinLimits}
 use Rattle.yew_knap.specs.ItemSets.{has_item}
 use Rattle.yew_knap.specs.NodeLaws.{knapsack-ranked, root-sound}
-use Rattle.yew_knap.specs.Nodes.{chosen_of, root_of, children_of, worth_of, IsNode}
+use Rattle.yew_knap.specs.Nodes.{chosen_of, root_of, children_of, worth_of, IsNode, items_of}
 use Rattle.yew_knap.specs.Packings.{item_at, profit_of, weight_of, is_packing, IsBestProfit}
 use Rattle.yew_knap.specs.SearchedOrder.{searched_order}
 use Rattle.yew_knap.proofs.Amounts.{sum_by-picked, node-packed, each_place}
@@ -85,9 +85,9 @@ module _ (instance : Instance) (limits : IsWithinLimits instance) where
   reached-chosen : (chosen : List ℕ) → is_packing instance chosen ≡ true → (r : Reaches instance (wanted_of chosen)) → chosen_of instance r.last ≡ chosen
   reached-chosen chosen packs r =
       let both = and_parts (is_set 1 (length instance.items) chosen) (nat_le (weight_of instance chosen) instance.capacity) packs in
-      let at = each_place instance (λ k. has_item r.last.chosen k ≡ wanted_of chosen k) r.agrees in
-      filter-agree (λ number. has_item r.last.chosen (number - 1)) (λ number. wanted_of chosen (number - 1)) (range_with_len 1 (length instance.items))
-      (range-all (λ number. has_item r.last.chosen (number - 1) ≡ wanted_of chosen (number - 1)) 1 (length instance.items) (λ k l m. at (k - 1) (omega arith)))
+      let at = each_place instance (λ k. has_item (items_of r.last) k ≡ wanted_of chosen k) r.agrees in
+      filter-agree (λ number. has_item (items_of r.last) (number - 1)) (λ number. wanted_of chosen (number - 1)) (range_with_len 1 (length instance.items))
+      (range-all (λ number. has_item (items_of r.last) (number - 1) ≡ wanted_of chosen (number - 1)) 1 (length instance.items) (λ k l m. at (k - 1) (omega arith)))
       ∙ wanted_of-number chosen
       ∙ filter-contains (length instance.items) chosen both.0
 
@@ -102,10 +102,10 @@ module _ (instance : Instance) (limits : IsWithinLimits instance) where
 
   same-items : (a b : KnapNode) → chosen_of instance a ≡ chosen_of instance b → SameItems instance a b
   same-items a b e k l =
-      let numbers = filter-same (λ number. has_item a.chosen (number - 1)) (λ number. has_item b.chosen (number - 1)) 1 (length instance.items) e in
+      let numbers = filter-same (λ number. has_item (items_of a) (number - 1)) (λ number. has_item (items_of b) (number - 1)) 1 (length instance.items) e in
       let same : k + 1 - 1 ≡ k = omega arith in
-      subst (λ j. has_item a.chosen j ≡ has_item b.chosen j) same
-      (range-at (λ number. has_item a.chosen (number - 1) ≡ has_item b.chosen (number - 1)) 1 (length instance.items) numbers (k + 1) (omega arith) (omega arith))
+      subst (λ j. has_item (items_of a) j ≡ has_item (items_of b) j) same
+      (range-at (λ number. has_item (items_of a) (number - 1) ≡ has_item (items_of b) (number - 1)) 1 (length instance.items) numbers (k + 1) (omega arith) (omega arith))
 
   each-once : (m other : Member KnapNode) → Contains members m → Contains members other → chosen_of instance m.node ≡ chosen_of instance other.node → m ≡ other
   each-once m other stands also e =

@@ -12,7 +12,7 @@ use Rattle.yew_knap.specs.declared.order.Numbered.{Numbered}
 use Rattle.yew_knap.specs.Instance.{Instance, IsWithinLimits}
 use Rattle.yew_knap.specs.ItemSets.{has_item}
 use Rattle.yew_knap.specs.NodeLaws.{IsOther, IsNext, others_before, has_added, rest_after, none_from, child-sound, root-sound}
-use Rattle.yew_knap.specs.Nodes.{root_of, added, with_one_more, children_of, IsNode}
+use Rattle.yew_knap.specs.Nodes.{root_of, added, with_one_more, children_of, IsNode, items_of, opened}
 use Rattle.yew_knap.specs.SearchedOrder.{searched_order}
 
 take_one_more : {X : Type 0} (P : X → Type 0) (xs : List X) (k : ℕ) (y : X) (ys : List X) → drop k xs ≡ y ∷ ys → AllByRecursion P (take k xs) → P y → AllByRecursion P (take (suc k) xs)
@@ -24,7 +24,7 @@ take_one_more P (x ∷ xs) (suc k) y ys e a p = (a.0, take_one_more P xs k y ys 
 -- the node at a path that begins with a child that adds an item from a place on
 abbrev from_place : Instance → KnapNode → ℕ → List Numbered → List ℕ → Option KnapNode
 from_place instance node place items [] = Some node
-from_place instance node place items (k ∷ ks) = option_and_then (λ c. node_at (children_of instance) c ks) (slice_get (with_one_more node place items) k)
+from_place instance node place items (k ∷ ks) = option_and_then (λ c. node_at (children_of instance) c ks) (slice_get (with_one_more instance (opened node) place items) k)
 
 from_place-own : (instance : Instance) (node : KnapNode) (path : List ℕ) → from_place instance node node.next (drop node.next (searched_order instance)) path ≡ node_at (children_of instance) node path
 from_place-own instance node [] = refl
@@ -34,7 +34,7 @@ record Way (instance : Instance) (wanted : ℕ → Bool) (node : KnapNode) (plac
   pub path : List ℕ
   pub last : KnapNode
   pub found : from_place instance node place items path ≡ Some last
-  pub agrees : AllByRecursion (λ item. has_item last.chosen item.index ≡ wanted item.index) (searched_order instance)
+  pub agrees : AllByRecursion (λ item. has_item (items_of last) item.index ≡ wanted item.index) (searched_order instance)
 
 -- a child that adds an item from a later place on is a child that adds one from this place on
 later : (instance : Instance) (wanted : ℕ → Bool) (node : KnapNode) (place : ℕ) (item : Numbered) (items : List Numbered) → Way instance wanted node (place + 1) items → Way instance wanted node place (item ∷ items)
@@ -49,14 +49,14 @@ later instance wanted node place item items w =
             path = suc k ∷ ks;
             last = w.last;
             found =
-                ap (λ b. option_and_then (λ c. node_at (children_of instance) c ks) (slice_get (if b then added node place item ∷ with_one_more node (place + 1) items else with_one_more node (place + 1) items) (suc k))) fits ∙ e;
+                ap (λ b. option_and_then (λ c. node_at (children_of instance) c ks) (slice_get (if b then added instance (opened node) place item ∷ with_one_more instance (opened node) (place + 1) items else with_one_more instance (opened node) (place + 1) items) (suc k))) fits ∙ e;
             agrees = w.agrees;
           }
           | false ↦ λ heavy. record {
             path = k ∷ ks;
             last = w.last;
             found =
-                ap (λ b. option_and_then (λ c. node_at (children_of instance) c ks) (slice_get (if b then added node place item ∷ with_one_more node (place + 1) items else with_one_more node (place + 1) items) k)) heavy ∙ e;
+                ap (λ b. option_and_then (λ c. node_at (children_of instance) c ks) (slice_get (if b then added instance (opened node) place item ∷ with_one_more instance (opened node) (place + 1) items else with_one_more instance (opened node) (place + 1) items) k)) heavy ∙ e;
             agrees = w.agrees;
           }
         ]
@@ -68,21 +68,21 @@ module _ (instance : Instance) (wanted : ℕ → Bool) where
   wanted_weight item = if wanted item.index then item.weight else 0
 
   abbrev Agrees : KnapNode → Numbered → Type 0
-  Agrees node item = has_item node.chosen item.index ≡ wanted item.index
+  Agrees node item = has_item (items_of node) item.index ≡ wanted item.index
 
   more_agrees : (node : KnapNode) (place : ℕ) (item : Numbered) (items : List Numbered) → drop place (searched_order instance) ≡ item ∷ items → AllByRecursion (Agrees node) (take place (searched_order instance)) → Agrees node item → AllByRecursion (Agrees node) (take (place + 1) (searched_order instance))
   more_agrees node place item items at a own =
       let same : suc place ≡ place + 1 = omega arith in
       subst (λ k. AllByRecursion (Agrees node) (take k (searched_order instance))) same (take_one_more (Agrees node) (searched_order instance) place item items at a own)
 
-  child_agrees : (node : KnapNode) → IsNode instance node → (place : ℕ) (item : Numbered) (items : List Numbered) → drop place (searched_order instance) ≡ item ∷ items → AllByRecursion (Agrees node) (take place (searched_order instance)) → wanted item.index ≡ true → AllByRecursion (Agrees (added node place item)) (take (place + 1) (searched_order instance))
+  child_agrees : (node : KnapNode) → IsNode instance node → (place : ℕ) (item : Numbered) (items : List Numbered) → drop place (searched_order instance) ≡ item ∷ items → AllByRecursion (Agrees node) (take place (searched_order instance)) → wanted item.index ≡ true → AllByRecursion (Agrees (added instance (opened node) place item)) (take (place + 1) (searched_order instance))
   child_agrees node sound place item items at a is_wanted =
-      more_agrees (added node place item) place item items at
-      (AllByRecursion-weaker (λ y. Agrees node y × IsOther item.index y) (Agrees (added node place item))
-      (λ y both. has_added instance place item items at node.chosen sound.size sound.limits y.index ∙ without (has_item node.chosen y.index) (y.index == item.index) both.1 ∙ both.0)
+      more_agrees (added instance (opened node) place item) place item items at
+      (AllByRecursion-weaker (λ y. Agrees node y × IsOther item.index y) (Agrees (added instance (opened node) place item))
+      (λ y both. has_added instance place item items at (items_of node) sound.size sound.limits y.index ∙ without (has_item (items_of node) y.index) (y.index == item.index) both.1 ∙ both.0)
       (take place (searched_order instance))
       (AllByRecursion-both (Agrees node) (IsOther item.index) (take place (searched_order instance)) a (others_before instance place item items at)))
-      (has_added instance place item items at node.chosen sound.size sound.limits item.index ∙ itself (has_item node.chosen item.index) item.index ∙ sym is_wanted)
+      (has_added instance place item items at (items_of node) sound.size sound.limits item.index ∙ itself (has_item (items_of node) item.index) item.index ∙ sym is_wanted)
     where
       without : (b d : Bool) → d ≡ false → (b || d) ≡ b
       without b d e = grind (arith, nat_tests)
@@ -90,14 +90,14 @@ module _ (instance : Instance) (wanted : ℕ → Bool) where
       itself : (b : Bool) (k : ℕ) → (b || k == k) ≡ true
       itself b k = grind (arith, nat_tests)
 
-  first_child : (node : KnapNode) (place : ℕ) (item : Numbered) (items : List Numbered) → drop place (searched_order instance) ≡ item ∷ items → item.weight ≤ node.room → Way instance wanted (added node place item) (place + 1) items → Way instance wanted node place (item ∷ items)
+  first_child : (node : KnapNode) (place : ℕ) (item : Numbered) (items : List Numbered) → drop place (searched_order instance) ≡ item ∷ items → item.weight ≤ node.room → Way instance wanted (added instance (opened node) place item) (place + 1) items → Way instance wanted node place (item ∷ items)
   first_child node place item items at fits w = record {
     path = 0 ∷ w.path;
     last = w.last;
     found =
-        ap (λ b. option_and_then (λ c. node_at (children_of instance) c w.path) (slice_get (if b then added node place item ∷ with_one_more node (place + 1) items else with_one_more node (place + 1) items) 0)) (le-leb item.weight node.room fits)
-        ∙ sym (from_place-own instance (added node place item) w.path)
-        ∙ ap (λ ys. from_place instance (added node place item) (place + 1) ys w.path) (rest_after instance place item items at)
+        ap (λ b. option_and_then (λ c. node_at (children_of instance) c w.path) (slice_get (if b then added instance (opened node) place item ∷ with_one_more instance (opened node) (place + 1) items else with_one_more instance (opened node) (place + 1) items) 0)) (le-leb item.weight node.room fits)
+        ∙ sym (from_place-own instance (added instance (opened node) place item) w.path)
+        ∙ ap (λ ys. from_place instance (added instance (opened node) place item) (place + 1) ys w.path) (rest_after instance place item items at)
         ∙ w.found;
     agrees = w.agrees;
   }
@@ -119,11 +119,11 @@ module _ (instance : Instance) (wanted : ℕ → Bool) where
             let light : item.weight ≤ node.room = omega (arith, c, fits) in
             let next : IsNext instance node place item items = record { from = from; at = at; fits = light } in
             first_child node place item items at light
-            (way items (added node place item) (place + 1) (child-sound instance node sound place item items next) (omega arith) (rest_after instance place item items at)
+            (way items (added instance (opened node) place item) (place + 1) (child-sound instance node sound place item items next) (omega arith) (rest_after instance place item items at)
             (child_agrees node sound place item items at a e)
             (omega (arith, c, fits)))
         | false ↦ λ e c.
-            let absent : has_item node.chosen item.index ≡ false = (subst (AllByRecursion (λ y. has_item node.chosen y.index ≡ false)) at (none_from instance node sound place from)).0 in
+            let absent : has_item (items_of node) item.index ≡ false = (subst (AllByRecursion (λ y. has_item (items_of node) y.index ≡ false)) at (none_from instance node sound place from)).0 in
             later instance wanted node place item items
             (way items node (place + 1) sound (omega arith) (rest_after instance place item items at)
             (more_agrees node place item items at a (absent ∙ sym e))
@@ -136,7 +136,7 @@ module _ (instance : Instance) (wanted : ℕ → Bool) where
     pub path : List ℕ
     pub last : KnapNode
     pub found : node_at (children_of instance) (root_of instance) path ≡ Some last
-    pub agrees : AllByRecursion (λ item. has_item last.chosen item.index ≡ wanted item.index) (searched_order instance)
+    pub agrees : AllByRecursion (λ item. has_item (items_of last) item.index ≡ wanted item.index) (searched_order instance)
 
   pub reaches : IsWithinLimits instance → sum_by wanted_weight (searched_order instance) ≤ instance.capacity → Reaches
   reaches limits fits =

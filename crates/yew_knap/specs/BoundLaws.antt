@@ -16,7 +16,7 @@ use Rattle.yew_knap.specs.declared.order.Numbered.{Numbered}
 use Rattle.yew_knap.specs.Instance.{Instance}
 use Rattle.yew_knap.specs.ItemSets.{has_item, with_item}
 use Rattle.yew_knap.specs.Lists.{AllByRecursion-all, AllByRecursion-take, sum_by-agree, sum_by-below, sum_by-none}
-use Rattle.yew_knap.specs.Nodes.{added, children_of, worth_of, dantzig, bound_of, amount_in, IsNode}
+use Rattle.yew_knap.specs.Nodes.{added, children_of, worth_of, dantzig, bound_of, amount_in, IsNode, items_of, opened}
 use Rattle.yew_knap.specs.NodeLaws.{IsOther, IsNext, others_before, has_added, child-at, added-sound}
 use Rattle.yew_knap.specs.OrderLaws.{NoWorse, FallsInValue, IsSmallNumbered, length-searched_order, searched_order-falls, searched_order-small}
 use Rattle.yew_knap.specs.SearchedOrder.{searched_order}
@@ -55,11 +55,11 @@ record Critical (items : ItemSet) (room : ℕ) (xs : List Numbered) : Type 0 whe
 abbrev Greedy : ItemSet → ℕ → List Numbered → Type 0
 Greedy items room xs = (sum_by (profit_in items) xs ≤ dantzig room xs) ⊎ Critical items room xs
 
-dantzig-fits : (room : ℕ) (x : Numbered) (xs : List Numbered) → x.weight ≤ room → dantzig room (x ∷ xs) ≡ x.profit + dantzig (room - x.weight) xs
+pub dantzig-fits : (room : ℕ) (x : Numbered) (xs : List Numbered) → x.weight ≤ room → dantzig room (x ∷ xs) ≡ x.profit + dantzig (room - x.weight) xs
 dantzig-fits room x xs l =
     ap (λ b. if b then x.profit + dantzig (room - x.weight) xs else x.profit * room / x.weight) (le-leb x.weight room l)
 
-dantzig-stops : (room : ℕ) (x : Numbered) (xs : List Numbered) → room < x.weight → dantzig room (x ∷ xs) ≡ x.profit * room / x.weight
+pub dantzig-stops : (room : ℕ) (x : Numbered) (xs : List Numbered) → room < x.weight → dantzig room (x ∷ xs) ≡ x.profit * room / x.weight
 dantzig-stops room x xs l =
     ap (λ b. if b then x.profit + dantzig (room - x.weight) xs else x.profit * room / x.weight) (lt-leb x.weight room l)
 
@@ -185,17 +185,17 @@ module _ (instance : Instance) where
   -- a node at or below another has the same of the items before the other's next place
   pub record Grows (node below : KnapNode) : Type 0 where
     pub sound : IsNode instance below
-    pub agrees : AllByRecursion (λ item. has_item below.chosen item.index ≡ has_item node.chosen item.index) (take node.next (searched_order instance))
+    pub agrees : AllByRecursion (λ item. has_item (items_of below) item.index ≡ has_item (items_of node) item.index) (take node.next (searched_order instance))
 
-  grows-child : (node below : KnapNode) → IsNode instance node → (place : ℕ) (item : Numbered) (after : List Numbered) → IsNext instance node place item after → Grows (added node place item) below → Grows node below
+  grows-child : (node below : KnapNode) → IsNode instance node → (place : ℕ) (item : Numbered) (after : List Numbered) → IsNext instance node place item after → Grows (added instance (opened node) place item) below → Grows node below
   grows-child node below sound place item after next grows = record {
     sound = grows.sound;
     agrees =
-        AllByRecursion-weaker (λ y. (has_item below.chosen y.index ≡ has_item (with_item node.chosen item.index) y.index) × IsOther item.index y) (λ y. has_item below.chosen y.index ≡ has_item node.chosen y.index)
-        (λ y both. both.0 ∙ has_added instance place item after next.at node.chosen sound.size sound.limits y.index ∙ without (has_item node.chosen y.index) (y.index == item.index) both.1)
+        AllByRecursion-weaker (λ y. (has_item (items_of below) y.index ≡ has_item (with_item (items_of node) item.index) y.index) × IsOther item.index y) (λ y. has_item (items_of below) y.index ≡ has_item (items_of node) y.index)
+        (λ y both. both.0 ∙ has_added instance place item after next.at (items_of node) sound.size sound.limits y.index ∙ without (has_item (items_of node) y.index) (y.index == item.index) both.1)
         (take node.next (searched_order instance))
-        (AllByRecursion-both (λ y. has_item below.chosen y.index ≡ has_item (with_item node.chosen item.index) y.index) (IsOther item.index) (take node.next (searched_order instance))
-        (earlier (place + 1) (let f = next.from in omega (arith, f)) (λ y. has_item below.chosen y.index ≡ has_item (with_item node.chosen item.index) y.index) grows.agrees)
+        (AllByRecursion-both (λ y. has_item (items_of below) y.index ≡ has_item (with_item (items_of node) item.index) y.index) (IsOther item.index) (take node.next (searched_order instance))
+        (earlier (place + 1) (let f = next.from in omega (arith, f)) (λ y. has_item (items_of below) y.index ≡ has_item (with_item (items_of node) item.index) y.index) grows.agrees)
         (earlier place next.from (IsOther item.index) (others_before instance place item after next.at)));
   }
     where
@@ -211,7 +211,7 @@ module _ (instance : Instance) where
   grows-along [] node below sound e =
       subst (Grows node) (same_Some node below e) (record {
         sound = sound;
-        agrees = AllByRecursion-all (λ item. has_item node.chosen item.index ≡ has_item node.chosen item.index) (λ item. refl) (take node.next (searched_order instance));
+        agrees = AllByRecursion-all (λ item. has_item (items_of node) item.index ≡ has_item (items_of node) item.index) (λ item. refl) (take node.next (searched_order instance));
       })
   grows-along (k ∷ ks) node below sound e =
       option_and_then_some (λ c. node_at (children_of instance) c ks) (slice_get (children_of instance node) k) below e
@@ -221,13 +221,13 @@ module _ (instance : Instance) where
       (subst (λ c. Grows c below) a.is (grows-along ks child below (added-sound instance node child sound a) rest)))
 
   -- what a set at or below a node has more than the node's own is of items from the node's next place on
-  amount-below : (node below : KnapNode) → IsNode instance node → Grows node below → (amount : Numbered → ℕ) → sum_by (amount_in amount below.chosen) (searched_order instance) ≡ sum_by (amount_in amount node.chosen) (searched_order instance) + sum_by (amount_in amount below.chosen) (drop node.next (searched_order instance))
+  amount-below : (node below : KnapNode) → IsNode instance node → Grows node below → (amount : Numbered → ℕ) → sum_by (amount_in amount (items_of below)) (searched_order instance) ≡ sum_by (amount_in amount (items_of node)) (searched_order instance) + sum_by (amount_in amount (items_of below)) (drop node.next (searched_order instance))
   amount-below node below sound grows amount =
       let order = searched_order instance in
-      let whole = sum_by-take-drop (amount_in amount below.chosen) order node.next in
-      let own = sum_by-take-drop (amount_in amount node.chosen) order node.next in
-      let none = sum_by-none (amount_in amount node.chosen) (drop node.next order) (AllByRecursion-weaker (λ item. has_item node.chosen item.index ≡ false) (λ item. amount_in amount node.chosen item ≡ 0) (λ item e. ap (λ b. if b then amount item else 0) e) (drop node.next order) sound.none_later) in
-      let same = sum_by-agree (amount_in amount below.chosen) (amount_in amount node.chosen) (take node.next order) (AllByRecursion-weaker (λ item. has_item below.chosen item.index ≡ has_item node.chosen item.index) (λ item. amount_in amount below.chosen item ≡ amount_in amount node.chosen item) (λ item e. ap (λ b. if b then amount item else 0) e) (take node.next order) grows.agrees) in
+      let whole = sum_by-take-drop (amount_in amount (items_of below)) order node.next in
+      let own = sum_by-take-drop (amount_in amount (items_of node)) order node.next in
+      let none = sum_by-none (amount_in amount (items_of node)) (drop node.next order) (AllByRecursion-weaker (λ item. has_item (items_of node) item.index ≡ false) (λ item. amount_in amount (items_of node) item ≡ 0) (λ item e. ap (λ b. if b then amount item else 0) e) (drop node.next order) sound.none_later) in
+      let same = sum_by-agree (amount_in amount (items_of below)) (amount_in amount (items_of node)) (take node.next order) (AllByRecursion-weaker (λ item. has_item (items_of below) item.index ≡ has_item (items_of node) item.index) (λ item. amount_in amount (items_of below) item ≡ amount_in amount (items_of node) item) (λ item e. ap (λ b. if b then amount item else 0) e) (take node.next order) grows.agrees) in
       omega (arith, whole, own, none, same)
 
   worth-bounded : (node below : KnapNode) → IsNode instance node → Grows node below → worth_of instance below ≤ bound_of instance node
@@ -238,7 +238,7 @@ module _ (instance : Instance) where
       let own_room = sound.room_is in
       let below_profit = grows.sound.profit_is in
       let below_room = grows.sound.room_is in
-      let most = dantzig-bounds below.chosen node.room (drop node.next (searched_order instance)) (FallsInValue-drop node.next (searched_order instance) (searched_order-falls instance)) (omega (arith, weights, own_room, below_room)) in
+      let most = dantzig-bounds (items_of below) node.room (drop node.next (searched_order instance)) (FallsInValue-drop node.next (searched_order instance) (searched_order-falls instance)) (omega (arith, weights, own_room, below_room)) in
       omega (arith, profits, own_profit, below_profit, most)
 
   bound-small : (node : KnapNode) → IsNode instance node → bound_of instance node < 2 ^ 40
@@ -249,9 +249,9 @@ module _ (instance : Instance) where
       let profit = sound.profit_is in
       let all = total-small (length instance.items) order (searched_order-small instance sound.limits) in
       let parts = sum_by-take-drop (λ (item : Numbered). item.profit) order node.next in
-      let own = sum_by-take-drop (amount_in (λ item. item.profit) node.chosen) order node.next in
-      let none = sum_by-none (amount_in (λ item. item.profit) node.chosen) (drop node.next order) (AllByRecursion-weaker (λ item. has_item node.chosen item.index ≡ false) (λ item. amount_in (λ i. i.profit) node.chosen item ≡ 0) (λ item e. ap (λ b. if b then item.profit else 0) e) (drop node.next order) sound.none_later) in
-      let less = sum_by-below (amount_in (λ item. item.profit) node.chosen) (λ item. item.profit) (take node.next order) (AllByRecursion-all (λ item. amount_in (λ i. i.profit) node.chosen item ≤ item.profit) (λ item. amount_in-le (λ i. i.profit) node.chosen item) (take node.next order)) in
+      let own = sum_by-take-drop (amount_in (λ item. item.profit) (items_of node)) order node.next in
+      let none = sum_by-none (amount_in (λ item. item.profit) (items_of node)) (drop node.next order) (AllByRecursion-weaker (λ item. has_item (items_of node) item.index ≡ false) (λ item. amount_in (λ i. i.profit) (items_of node) item ≡ 0) (λ item e. ap (λ b. if b then item.profit else 0) e) (drop node.next order) sound.none_later) in
+      let less = sum_by-below (amount_in (λ item. item.profit) (items_of node)) (λ item. item.profit) (take node.next order) (AllByRecursion-all (λ item. amount_in (λ i. i.profit) (items_of node) item ≤ item.profit) (λ item. amount_in-le (λ i. i.profit) (items_of node) item) (take node.next order)) in
       let rest = dantzig-total node.room (drop node.next order) in
       omega (arith, few, long, profit, all, parts, own, none, less, rest)
 

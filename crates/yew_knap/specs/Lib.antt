@@ -9,6 +9,7 @@ pub mod NodeLaws
 pub mod Nodes
 pub mod OrderLaws
 pub mod Packings
+pub mod Places
 pub mod Reading
 pub mod SearchedOrder
 pub mod Texts

@@ -11,12 +11,13 @@ use Rattle.yew_laws.proofs.Members.{AllByRecursion-weaker, AllByRecursion-both, 
 use Rattle.yew_laws.proofs.Steps.{AllByRecursion-drop, slice_get_from_drop, drop_from_drop}
 use Rattle.yew_knap.specs.declared.item_sets.ItemSet.{ItemSet}
 use Rattle.yew_knap.specs.declared.nodes.KnapNode.{KnapNode}
+use Rattle.yew_knap.specs.declared.nodes.KnapKids.{KnapKids}
 use Rattle.yew_knap.specs.declared.order.Numbered.{Numbered}
 use Rattle.yew_knap.specs.Instance.{Instance, IsWithinLimits}
 use Rattle.yew_knap.specs.ItemSets.{no_items, has_item, with_item}
 use Rattle.yew_knap.specs.ItemSetLaws.{has_item-no_items, has_item-with_item, length-with_item}
 use Rattle.yew_knap.specs.Lists.{AllByRecursion-all, sum_by-agree, sum_by-none, sum_by-plus}
-use Rattle.yew_knap.specs.Nodes.{root_of, added, with_one_more, children_of, rank_of, amount_in, IsNode}
+use Rattle.yew_knap.specs.Nodes.{root_of, added, with_one_more, children_of, rank_of, amount_in, IsNode, items_of, opened}
 use Rattle.yew_knap.specs.OrderLaws.{only_item, IsSmallNumbered, length-searched_order, searched_order-once, searched_order-small}
 use Rattle.yew_knap.specs.SearchedOrder.{searched_order}
 
@@ -116,42 +117,44 @@ module _ (instance : Instance) (place : ℕ) (item : Numbered) (after : List Num
 
 module _ (instance : Instance) (node : KnapNode) (sound : IsNode instance node) where
   -- no item from a later place on is in the set
-  pub none_from : (place : ℕ) → node.next ≤ place → AllByRecursion (λ item. has_item node.chosen item.index ≡ false) (drop place (searched_order instance))
+  pub none_from : (place : ℕ) → node.next ≤ place → AllByRecursion (λ item. has_item (items_of node) item.index ≡ false) (drop place (searched_order instance))
   none_from place from =
       let same : node.next + (place - node.next) ≡ place = omega arith in
-      subst (λ k. AllByRecursion (λ item. has_item node.chosen item.index ≡ false) (drop k (searched_order instance))) same
-      (subst (λ ys. AllByRecursion (λ item. has_item node.chosen item.index ≡ false) ys) (drop-drop (place - node.next) node.next (searched_order instance))
-      (AllByRecursion-drop (λ item. has_item node.chosen item.index ≡ false) (place - node.next) (drop node.next (searched_order instance)) sound.none_later))
+      subst (λ k. AllByRecursion (λ item. has_item (items_of node) item.index ≡ false) (drop k (searched_order instance))) same
+      (subst (λ ys. AllByRecursion (λ item. has_item (items_of node) item.index ≡ false) ys) (drop-drop (place - node.next) node.next (searched_order instance))
+      (AllByRecursion-drop (λ item. has_item (items_of node) item.index ≡ false) (place - node.next) (drop node.next (searched_order instance)) sound.none_later))
 
   module _ (place : ℕ) (item : Numbered) (after : List Numbered) (next : IsNext instance node place item after) where
-    none_here : AllByRecursion (λ y. has_item node.chosen y.index ≡ false) (item ∷ after)
-    none_here = subst (λ ys. AllByRecursion (λ y. has_item node.chosen y.index ≡ false) ys) next.at (none_from place next.from)
+    none_here : AllByRecursion (λ y. has_item (items_of node) y.index ≡ false) (item ∷ after)
+    none_here = subst (λ ys. AllByRecursion (λ y. has_item (items_of node) y.index ≡ false) ys) next.at (none_from place next.from)
 
-    pub absent : has_item node.chosen item.index ≡ false
+    pub absent : has_item (items_of node) item.index ≡ false
     absent = none_here.0
 
-    none_after : AllByRecursion (λ y. has_item (with_item node.chosen item.index) y.index ≡ false) after
+    none_after : AllByRecursion (λ y. has_item (with_item (items_of node) item.index) y.index ≡ false) after
     none_after =
-        AllByRecursion-weaker (λ y. (has_item node.chosen y.index ≡ false) × IsOther item.index y) (λ y. has_item (with_item node.chosen item.index) y.index ≡ false)
-        (λ y both. has_added instance place item after next.at node.chosen sound.size sound.limits y.index ∙ neither (has_item node.chosen y.index) (y.index == item.index) both.0 both.1)
+        AllByRecursion-weaker (λ y. (has_item (items_of node) y.index ≡ false) × IsOther item.index y) (λ y. has_item (with_item (items_of node) item.index) y.index ≡ false)
+        (λ y both. has_added instance place item after next.at (items_of node) sound.size sound.limits y.index ∙ neither (has_item (items_of node) y.index) (y.index == item.index) both.0 both.1)
         after
-        (AllByRecursion-both (λ y. has_item node.chosen y.index ≡ false) (IsOther item.index) after none_here.1 (others_after instance place item after next.at))
+        (AllByRecursion-both (λ y. has_item (items_of node) y.index ≡ false) (IsOther item.index) after none_here.1 (others_after instance place item after next.at))
       where
         neither : (a b : Bool) → a ≡ false → b ≡ false → (a || b) ≡ false
         neither a b x y = grind (arith, nat_tests)
 
     -- the set with the item is a node
-    pub child-sound : IsNode instance (added node place item)
+    pub child-sound : IsNode instance (added instance (opened node) place item)
     child-sound =
-        let profits = sum_by-added instance place item after next.at (λ y. y.profit) node.chosen sound.size sound.limits absent in
-        let weights = sum_by-added instance place item after next.at (λ y. y.weight) node.chosen sound.size sound.limits absent in
+        let profits = sum_by-added instance place item after next.at (λ y. y.profit) (items_of node) sound.size sound.limits absent in
+        let weights = sum_by-added instance place item after next.at (λ y. y.weight) (items_of node) sound.size sound.limits absent in
         record {
           limits = sound.limits;
-          size = length-with_item node.chosen item.index ∙ sound.size;
+          last_small = let small = item_small instance place item after next.at sound.limits in let few = sound.limits.few in omega (arith, small.0, few);
+          size = length-with_item (items_of node) item.index ∙ sound.size;
           within = place_within instance place item after next.at;
           profit_is = let e = sound.profit_is in omega (arith, profits, e);
           room_is = let e = sound.room_is in let f = next.fits in omega (arith, weights, e, f);
-          none_later = subst (λ ys. AllByRecursion (λ y. has_item (with_item node.chosen item.index) y.index ≡ false) ys) (sym (rest_after instance place item after next.at)) none_after;
+          breaking_is = refl;
+          none_later = subst (λ ys. AllByRecursion (λ y. has_item (with_item (items_of node) item.index) y.index ≡ false) ys) (sym (rest_after instance place item after next.at)) none_after;
         }
 
 -- a node that adds one item to another node's set
@@ -160,16 +163,16 @@ pub record IsAdded (instance : Instance) (node child : KnapNode) : Type 0 where
   pub item : Numbered
   pub after : List Numbered
   pub next : IsNext instance node place item after
-  pub is : child ≡ added node place item
+  pub is : child ≡ added instance (opened node) place item
 
 module _ (instance : Instance) (node : KnapNode) where
   -- what holds of a node's set with each item that fits, from a place on
-  pub with_one_more-all : (P : KnapNode → Type 0) → ((place : ℕ) (item : Numbered) (after : List Numbered) → IsNext instance node place item after → P (added node place item)) → (place : ℕ) (items : List Numbered) → node.next ≤ place → drop place (searched_order instance) ≡ items → AllByRecursion P (with_one_more node place items)
+  pub with_one_more-all : (P : KnapNode → Type 0) → ((place : ℕ) (item : Numbered) (after : List Numbered) → IsNext instance node place item after → P (added instance (opened node) place item)) → (place : ℕ) (items : List Numbered) → node.next ≤ place → drop place (searched_order instance) ≡ items → AllByRecursion P (with_one_more instance (opened node) place items)
   with_one_more-all P step place [] from at = tt
   with_one_more-all P step place (item ∷ items) from at =
       let rest = with_one_more-all P step (place + 1) items (omega arith) (rest_after instance place item items at) in
       elim (nat_le item.weight node.room)
-      as (λ b. nat_le item.weight node.room ≡ b → AllByRecursion P (if b then added node place item ∷ with_one_more node (place + 1) items else with_one_more node (place + 1) items)) [
+      as (λ b. nat_le item.weight node.room ≡ b → AllByRecursion P (if b then added instance (opened node) place item ∷ with_one_more instance (opened node) (place + 1) items else with_one_more instance (opened node) (place + 1) items)) [
         | true ↦ λ e. (step place item items (record { from = from; at = at; fits = leb-true item.weight node.room e }), rest)
         | false ↦ λ e. rest
       ]
@@ -205,10 +208,12 @@ module _ (instance : Instance) where
   pub root-sound : IsWithinLimits instance → IsNode instance (root_of instance)
   root-sound limits = record {
     limits = limits;
+    last_small = tt;
     size = refl;
     within = omega arith;
     profit_is = sym (nothing (λ item. item.profit));
     room_is = let e = nothing (λ item. item.weight) in omega (arith, e);
+    breaking_is = refl;
     none_later = AllByRecursion-all (λ item. has_item no_items item.index ≡ false) (λ item. has_item-no_items item.index) (searched_order instance);
   }
     where
@@ -220,11 +225,11 @@ module _ (instance : Instance) where
   pub root_rank-small : IsWithinLimits instance → rank_of instance (root_of instance) ≤ 65535
   root_rank-small limits = let few = limits.few in let e = length-searched_order instance in omega (arith, few, e)
 
-length-with_one_more : (node : KnapNode) (place : ℕ) (items : List Numbered) → length (with_one_more node place items) ≤ length items
-length-with_one_more node place [] = omega arith
-length-with_one_more node place (item ∷ items) =
-    let rest = length-with_one_more node (place + 1) items in
-    elim (nat_le item.weight node.room) as (λ b. length (if b then added node place item ∷ with_one_more node (place + 1) items else with_one_more node (place + 1) items) ≤ length (item ∷ items)) [
+length-with_one_more : (instance : Instance) (kids : KnapKids) (place : ℕ) (items : List Numbered) → length (with_one_more instance kids place items) ≤ length items
+length-with_one_more instance kids place [] = omega arith
+length-with_one_more instance kids place (item ∷ items) =
+    let rest = length-with_one_more instance kids (place + 1) items in
+    elim (nat_le item.weight kids.room) as (λ b. length (if b then added instance kids place item ∷ with_one_more instance kids (place + 1) items else with_one_more instance kids (place + 1) items) ≤ length (item ∷ items)) [
       | true ↦ omega (arith, rest)
       | false ↦ omega (arith, rest)
     ]
@@ -232,7 +237,7 @@ length-with_one_more node place (item ∷ items) =
 -- a node has at most as many children as there are items
 pub children-few : (instance : Instance) (node : KnapNode) → IsNode instance node → length (children_of instance node) + 1 < 2 ^ 32
 children-few instance node sound =
-    let most = length-with_one_more node node.next (drop node.next (searched_order instance)) in
+    let most = length-with_one_more instance (opened node) node.next (drop node.next (searched_order instance)) in
     let rest = length-drop node.next (searched_order instance) in
     let few = sound.limits.few in
     let e = length-searched_order instance in

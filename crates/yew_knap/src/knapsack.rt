@@ -4,6 +4,7 @@ ghost use Rattle.std.specs.Prelude.{◌≡◌, ◌≤◌, length, IfOk};
 ghost use Rattle.yew_knap.specs.Instance.{Instance};
 
 use crate::order::{Numbered, order_of};
+use crate::places::{Place, places_of};
 use std::marker::Model;
 use yew_laws::Memory;
 
@@ -15,12 +16,13 @@ pub struct Item {
 }
 
 /// A knapsack problem: the weight that can be carried, and the items in the order of the file. Beside them it keeps the
-/// items in the order in which they are tried.
+/// items in the order in which they are tried, and the places of that order.
 #[derive(Drop)]
 pub struct Knapsack {
     capacity: u64,
     items: Vec<Item>,
     order: Vec<Numbered>,
+    places: Vec<Place>,
 }
 
 impl Model for Knapsack {
@@ -29,14 +31,17 @@ impl Model for Knapsack {
 
     ghost Value = { Instance };
 
+    ghost use Rattle.yew_knap.specs.Places.{all_places};
     ghost use Rattle.yew_knap.specs.SearchedOrder.{all_placed};
 
     ghost view = { λ a. record { capacity = a.capacity; items = a.items.items } };
 
-    ghost invariant = { λ a. a.order.items ≡ all_placed [] 0 a.items.items };
+    ghost invariant = { λ a. (a.order.items ≡ all_placed [] 0 a.items.items)
+        × (a.places.items ≡ all_places 0 0 a.order.items) };
 }
 
 impl Knapsack {
+    ghost use Rattle.yew_knap.specs.Places.{all_places};
     ghost use Rattle.yew_knap.specs.SearchedOrder.{searched_order};
 
     /// The problem of at most 256 items.
@@ -45,10 +50,12 @@ impl Knapsack {
         ensures { IfOk result (λ problem. problem ≡ record { capacity = capacity; items = items.items }) }
     {
         let order = order_of(*items.allocator(), items.as_slice())?;
+        let places = places_of(*items.allocator(), order.as_slice())?;
         Ok(Knapsack {
             capacity,
             items,
             order,
+            places,
         })
     }
 
@@ -73,5 +80,13 @@ impl Knapsack {
         ensures { result.now ≡ searched_order self.now }
     {
         self.order.as_slice()
+    }
+
+    /// The places of that order, and its end.
+    #[inline(always)]
+    pub(crate) fn places(&self) -> &[Place]
+        ensures { result.now ≡ all_places 0 0 (searched_order self.now) }
+    {
+        self.places.as_slice()
     }
 }

@@ -11,7 +11,9 @@ mod knapsack;
 pub mod laws;
 mod nodes;
 mod order;
+mod places;
 mod problem;
+mod quotients;
 mod reading;
 #[cfg(test)]
 mod tests;

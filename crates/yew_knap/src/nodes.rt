@@ -1,44 +1,50 @@
 //! The nodes of the tree of sets of items.
 
-ghost use Rattle.std.specs.Prelude.{◌≡◌, ◌+◌, ◌<◌, ◌≤◌, ◌^◌};
+ghost use Rattle.std.specs.Prelude.{◌≡◌, ◌<◌, IfSome};
 
 use crate::item_sets::ItemSet;
-use crate::order::Numbered;
 
-/// A set of items that can be carried: its total profit, the weight that may still be added, and the place in the
-/// searched order after the item that was added last.
+/// A set of items that can be carried: its total profit, the weight that may still be added, the place in the searched
+/// order after the item that was added last, and the first place from there on whose item does not fit where the items
+/// are taken in order.
 #[derive(Clone, Copy, Debug, PartialEq, Eq)]
 pub struct KnapNode {
     pub(crate) profit: u64,
     pub(crate) room: u64,
     pub(crate) next: usize,
-    pub(crate) chosen: ItemSet,
+    pub(crate) breaking: usize,
+    /// All items but the one added last.
+    pub(crate) earlier: ItemSet,
+    /// The item added last. It is written to the others only where the node is opened: most children are cut off.
+    pub(crate) last: Option<u32>,
 }
 
 impl KnapNode {
-    ghost use Rattle.yew_knap.specs.Nodes.{added};
+    ghost use Rattle.yew_knap.specs.Nodes.{items_of};
 
-    /// The set with the item at a place of the searched order.
+    /// All items of the set.
     #[inline(always)]
-    pub(crate) fn with(&self, place: usize, item: &Numbered) -> KnapNode
-        requires index { item.now.index < 256 }
-        requires fits { item.now.weight ≤ self.now.room }
-        requires profit { self.now.profit + item.now.profit < 2 ^ 64 }
-        requires place { place + 1 < 2 ^ 64 }
-        ensures { result ≡ added self.now place item.now }
+    pub(crate) fn items(&self) -> ItemSet
+        requires { IfSome self.now.last (λ k. k < 256) }
+        ensures { result ≡ items_of self.now }
     {
-        KnapNode {
-            profit: self.profit + item.profit as u64,
-            room: self.room - item.weight as u64,
-            next: place + 1,
-            chosen: self.chosen.with(item.index),
+        match self.last {
+            Some(item) => self.earlier.with(item),
+            None => self.earlier,
         }
     }
 }
 
-/// The sets with one more item that are still to come: the set without it, and the place of the next item to try.
+/// The sets with one more item that are still to come: the set without it, with its total profit and the weight that
+/// may still be added, and the place of the next item to try.
+///
+/// The breaking place of each child is no earlier than that of its parent and of the child before it. So it is looked
+/// for from the one that was found last.
 #[derive(Clone, Copy, Debug, PartialEq, Eq)]
 pub struct KnapKids {
-    pub(crate) parent: KnapNode,
+    pub(crate) profit: u64,
+    pub(crate) room: u64,
     pub(crate) next: usize,
+    pub(crate) breaking: usize,
+    pub(crate) chosen: ItemSet,
 }

@@ -1,11 +1,39 @@
 //! The knapsack problem as a problem of tree search.
 
-use crate::bounds::greedy_gain;
+ghost use Rattle.std.specs.Prelude.{◌≡◌, ◌<◌, ◌≤◌, length};
+
 use crate::item_sets::ItemSet;
 use crate::knapsack::Knapsack;
 use crate::nodes::{KnapKids, KnapNode};
 use std::alloc::Global;
 use yew_laws::{Memory, Problem};
+
+impl Knapsack {
+    ghost use Rattle.yew_knap.specs.Nodes.{added, item_of, IsNode};
+    ghost use Rattle.yew_knap.specs.SearchedOrder.{searched_order};
+
+    /// The set with one more item, that at a place of the searched order, which fits.
+    #[inline(always)]
+    fn with(&self, kids: &KnapKids, place: usize) -> KnapNode
+        requires within { place < length (searched_order self.now) }
+        requires fits { (item_of (searched_order self.now) place).weight ≤ kids.now.room }
+        requires sound { IsNode self.now (added self.now kids.now place (item_of (searched_order self.now) place)) }
+        ensures { result ≡ added self.now kids.now place (item_of (searched_order self.now) place) }
+    {
+        let here = &self.places()[place];
+        let next = place + 1;
+        // Together with all items in front of the place, so that the places tell which items fit.
+        let room = here.weight_before + kids.room;
+        KnapNode {
+            profit: kids.profit + here.profit as u64,
+            room: kids.room - here.weight as u64,
+            next,
+            breaking: self.find_breaking(kids.breaking, next, room),
+            earlier: kids.chosen,
+            last: Some(here.index),
+        }
+    }
+}
 
 impl Problem for Knapsack {
     ghost use Rattle.yew_knap.specs.Nodes.{root_of, children_of, remaining_of, rank_of, worth_of, bound_of, IsNode};
@@ -39,33 +67,46 @@ impl Problem for Knapsack {
     ghost countable = { children-few };
 
     fn root(&self, _alloc: Global) -> Result<KnapNode, Memory> {
+        let capacity = self.capacity();
         Ok(KnapNode {
             profit: 0,
-            room: self.capacity(),
+            room: capacity,
             next: 0,
-            chosen: ItemSet::empty(),
+            breaking: self.find_breaking(0, 0, capacity),
+            earlier: ItemSet::empty(),
+            last: None,
         })
     }
 
     #[inline(always)]
     fn open(&self, _alloc: Global, node: KnapNode) -> Result<KnapKids, Memory> {
         Ok(KnapKids {
+            profit: node.profit,
+            room: node.room,
             next: node.next,
-            parent: node,
+            breaking: node.breaking,
+            chosen: node.items(),
         })
     }
 
     #[inline(always)]
     fn next(&self, _alloc: Global, kids: &mut KnapKids) -> Result<Option<KnapNode>, Memory> {
-        let order = self.order();
-        for place in kids.next..order.len() {
-            let item = &order[place];
-            if item.weight as u64 <= kids.parent.room {
-                kids.next = place + 1;
-                return Ok(Some(kids.parent.with(place, item)));
+        let places = self.places();
+        let end = self.order().len();
+        for place in kids.next..end {
+            let here = &places[place];
+            if here.weight as u64 <= kids.room {
+                let node = self.with(kids, place);
+                kids.next = node.next;
+                kids.breaking = node.breaking;
+                return Ok(Some(node));
+            }
+            if kids.room < here.least_weight as u64 {
+                kids.next = end;
+                return Ok(None);
             }
         }
-        kids.next = order.len();
+        kids.next = end;
         Ok(None)
     }
 
@@ -76,6 +117,7 @@ impl Problem for Knapsack {
 
     #[inline(always)]
     fn bound(&self, node: &KnapNode) -> u64 {
-        node.profit + greedy_gain(&self.order()[node.next..], node.room) + 1
+        let gain = self.greedy_gain(node.next, node.breaking, node.room);
+        node.profit + gain + 1
     }
 }

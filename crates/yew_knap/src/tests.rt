@@ -44,7 +44,7 @@ fn set_at(alloc: Global, problem: &Knapsack, numbers: &[u32]) -> Result<Option<I
     requires { IsNode problem.now (root_of problem.now) }
 {
     match node_at(alloc, problem, numbers)? {
-        Some(node) => Ok(Some(node.chosen)),
+        Some(node) => Ok(Some(node.items())),
         None => Ok(None),
     }
 }
@@ -60,7 +60,7 @@ fn next_set(
     ensures { AllByRecursion (IsNode problem.now) (remaining_of problem.now kids.new) }
 {
     match problem.next(alloc, kids) {
-        Ok(Some(node)) => Ok(Some(node.chosen)),
+        Ok(Some(node)) => Ok(Some(node.items())),
         Ok(None) => Ok(None),
         Err(e) => Err(e),
     }
@@ -99,7 +99,7 @@ fn equal_items(alloc: Global, count: u64, capacity: u64, profit: u64) -> Result<
 fn gives_the_children_in_order(rt: HostRuntime) -> Result<(), Fail> {
     let problem = read(rt.alloc(), FOUR)?;
     let root = problem.root(rt.alloc())?;
-    assert_eq!(rt; root.chosen, ItemSet::empty());
+    assert_eq!(rt; root.items(), ItemSet::empty());
     let empty = ItemSet::empty();
     assert_eq!(rt;
         set_at(rt.alloc(), &problem, &[0, 0])?,

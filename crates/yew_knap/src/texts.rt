@@ -44,7 +44,7 @@ impl Knapsack {
     {
         let mut text = Vec::new(alloc);
         push_numbers_line(&mut text, b"best", &[worth - 1])?;
-        push_items(&mut text, &node.chosen, self.items().len() as u32)?;
+        push_items(&mut text, &node.items(), self.items().len() as u32)?;
         Ok(text)
     }
 
@@ -62,7 +62,7 @@ impl Knapsack {
             None => push_text(&mut text, b"no\n")?,
             Some(node) => {
                 push_text(&mut text, b"yes\n")?;
-                push_items(&mut text, &node.chosen, self.items().len() as u32)?;
+                push_items(&mut text, &node.items(), self.items().len() as u32)?;
             }
         }
         Ok(text)
