@@ -1,17 +1,20 @@
 -- The first two words.
-use Rattle.std.proofs.Common.{◌≡◌, List, [], ◌∷◌, length, Some, None, refl, ap, ◌∙◌, arith}
-use Rattle.std.specs.Prelude.{String, string_bytes}
+use Rattle.std.proofs.Common.{◌≡◌, List, [], ◌∷◌, length, Some, None, Result, Ok, Err, refl, sym, ap, subst, ◌∙◌, arith}
+use Rattle.std.specs.Prelude.{String, string_bytes, IfErr}
 use Rattle.std.specs.declared.alloc.Global.{Global}
+use Rattle.yew_words.specs.declared.plan.UsageKind.{UsageKind}
 use Rattle.yew_words.specs.declared.plan.UsageKind.TheVariants.{Missing, Unknown}
 use Rattle.yew_words.specs.declared.table.Problem.{Problem}
 use Rattle.yew_words.specs.declared.table.Coordination.{Coordination}
+use Rattle.yew_words.specs.declared.table.Takes.{Takes}
 use Rattle.yew_words.specs.Word.{Word, texts}
 use Rattle.yew_words.specs.Table.{problem_word, coordination_word}
 use Rattle.yew_words.specs.Offences.{DueSkeleton, Offending}
 use Rattle.yew_words.specs.Table.{named, every_problem, every_coordination}
 use Rattle.yew_words.proofs.Judge.{after_coordination}
 use Rattle.yew_words.proofs.Names.{named_is}
-use Rattle.yew_words.proofs.Steps.{after_fault}
+use Rattle.yew_words.specs.Kept.{value_fault, RefusesValue}
+use Rattle.yew_words.proofs.Steps.{after_fault, fault_is}
 
 abbrev Strings : Type 0
 Strings = List (String Global)
@@ -35,3 +38,8 @@ second_missing problem (word ∷ words) e = absurd (omega arith)
 pub second_unknown : (problem : Problem) (words : Strings) (word : Word) (rest : List Word) → texts words ≡ word ∷ rest → named coordination_word every_coordination word ≡ None → Offending (problem_word problem ∷ texts words) 2 Unknown
 second_unknown problem words word rest e none =
     record { due = DueSkeleton problem; rest = word ∷ rest; is_due = tt; words_are = ap (λ (ws : List Word). problem_word problem ∷ ws) e; place_is = refl; is_refused = after_fault (DueSkeleton problem) word Unknown (ap (after_coordination problem) none) }
+
+-- where a value is due, the fault of the first word
+pub first_fault : {A : Type 0} (r : Result A UsageKind) (t : Takes) (words : Strings) (word : Word) (rest : List Word) → texts words ≡ word ∷ rest → IfErr r (λ kind. value_fault t word ≡ Some kind) → IfErr r (RefusesValue t (texts words))
+first_fault (Ok a) t words word rest words_are fault = tt
+first_fault (Err kind) t words word rest words_are fault = subst (λ (ws : List Word). RefusesValue t ws kind) (sym words_are) (fault_is t word kind fault)

@@ -9,5 +9,4 @@ pub mod Numbers
 pub mod KeptOnes
 pub mod Reading
 pub mod HeadWords
-pub mod MadePlans
 pub mod PlanRanges

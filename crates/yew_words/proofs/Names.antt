@@ -47,34 +47,23 @@ named_none word_of xs w a own e h = none-some a (sym e ∙ ap (named word_of xs)
 
 pub named_problem : (p : Problem) → named problem_word every_problem (problem_word p) ≡ Some p
 named_problem problems.Knapsack = refl
-named_problem problems.Tsp = refl
-named_problem problems.Subgraph = refl
-named_problem problems.Semigroups = refl
+named_problem _ = refl
 
 pub named_coordination : (c : Coordination) → named coordination_word every_coordination (coordination_word c) ≡ Some c
 named_coordination coordinations.Sequential = refl
-named_coordination coordinations.Depth = refl
-named_coordination coordinations.Budget = refl
-named_coordination coordinations.Steal = refl
-named_coordination coordinations.Ordered = refl
+named_coordination _ = refl
 
 pub named_made : (m : Made) → named made_word every_made (made_word m) ≡ Some m
 named_made made.Knapsack = refl
-named_made made.Tsp = refl
-named_made made.Lad = refl
+named_made _ = refl
 
 pub named_option : (o : OptionName) → named option_word every_option (option_word o) ≡ Some o
 named_option options.Workers = refl
-named_option options.Depth = refl
-named_option options.Budget = refl
-named_option options.Chunk = refl
-named_option options.Target = refl
-named_option options.Genus = refl
-named_option options.Report = refl
-named_option options.Audit = refl
-named_option options.Seed = refl
-named_option options.Size = refl
-named_option options.Solve = refl
+named_option _ = refl
+
+-- so two options of one word are one
+pub same_name : (a b : OptionName) → option_word a ≡ option_word b → a ≡ b
+same_name a b e = let f : Some a ≡ Some b = sym (named_option a) ∙ ap (λ (w : Word). named option_word every_option w) e ∙ named_option b in cc
 
 -- where no name is found the word is the word of none of them
 pub unnamed : {A : Type 0} (word_of : A → Word) (xs : List A) (w : Word) → ((a : A) → named word_of xs (word_of a) ≡ Some a) → ((a : A) → w ≢ word_of a) → named word_of xs w ≡ None

@@ -1,131 +1,163 @@
--- A plan's numbers are in their ranges.
-use Rattle.std.proofs.Common.{◌≡◌, ℕ, ◌≤◌, List, Option, Some, None, refl, sym, ap, subst, ◌∙◌, arith}
-use Rattle.std.specs.Prelude.{IsTrue, IsFalse, IfSome, is_some, option_map, option_and_then, unwrap_or}
+-- A plan's fields are in the ranges of the options that they come from.
+use Rattle.std.proofs.Common.{◌≡◌, ℕ, zero, suc, ◌≤◌, Bool, true, false, cond, List, [], Option, Some, None, refl, sym, ap, subst, ◌∙◌, arith}
+use Rattle.std.specs.Prelude.{IsTrue, IsFalse, IfSome, is_some, option_map, unwrap_or}
 use Rattle.std.proofs.lemmas.Bool.{both_ways}
 use Rattle.yew_words.specs.declared.plan.Made.TheVariants as made
+use Rattle.yew_words.specs.declared.table.Problem.{Problem}
 use Rattle.yew_words.specs.declared.table.Problem.TheVariants as problems
+use Rattle.yew_words.specs.declared.table.Coordination.{Coordination}
 use Rattle.yew_words.specs.declared.table.Coordination.TheVariants as coordinations
 use Rattle.yew_words.specs.declared.table.Head.{Head}
 use Rattle.yew_words.specs.declared.table.Head.TheVariants.{Search, Make}
 use Rattle.yew_words.specs.declared.table.OptionName.{OptionName}
 use Rattle.yew_words.specs.declared.table.OptionName.TheVariants as options
 use Rattle.yew_words.specs.declared.table.Takes.{Takes}
-use Rattle.yew_words.specs.declared.table.Takes.TheVariants.{Number}
+use Rattle.yew_words.specs.declared.table.Takes.TheVariants.{Nothing, OneOrAll, Number}
 use Rattle.yew_words.specs.Word.{Word, number_of}
-use Rattle.yew_words.specs.Table.{file_count, takes, is_for}
-use Rattle.yew_words.specs.Plans.{Planned, Setting, IsValue, setting_of, is_given, number_at, AreSettings, HasRequired, job_of, skeleton_of, workers_of, PlanOf}
-use Rattle.yew_words.specs.Ranges.{IsFromTo, HasSkeletonRange, HasWorkersRange, HasTargetRange, HasGenusRange, HasSizeRange, file_count_of, HasSkeletonOf, IsWithin}
+use Rattle.yew_words.specs.Table.{problem_row, file_count, job_of, takes, suits}
+use Rattle.yew_words.specs.Plans.{Planned, Setting, IsValue, value_said, setting_of, is_given, Values, values_of, number_said, number_or, AreSettings, HasRequired, skeleton_of, workers_of, PlanOf}
+use Rattle.yew_words.specs.Ranges.{coordination_of, head_of, IsFromTo, IsTaken, OneOf, HasRange, HasOptionalRange, HasSkeletonRange, HasSizeRange, file_count_of, HasSkeletonOf, IsWithin}
 use Rattle.yew_words.proofs.KeptOnes.{found}
 
-value_in : (low high : ℕ) (value : Option Word) → IsValue (Number low high) value → IfSome (option_map number_of value) (IsFromTo low high)
-value_in low high None h = absurd h
-value_in low high (Some word) h = (h.1, h.2)
+-- ---- an option's number
 
--- a number that was given is in its range
-number_in : (head : Head) (given : List Setting) → AreSettings head given → (name : OptionName) (low high : ℕ) → takes head name ≡ Number low high → IfSome (number_at given name) (IsFromTo low high)
-number_in head given are name low high t = at (setting_of name given) refl
+from_to : (low high n : ℕ) → low ≤ n → n ≤ high → IsFromTo low high n
+from_to zero high n above below = below
+from_to (suc low) high n above below = (above, below)
+
+said_taken : (t : Takes) (word : Option Word) → IsValue t word → IfSome (number_said (Some (value_said t word))) (IsTaken t)
+said_taken Nothing None is = tt
+said_taken Nothing (Some word) is = absurd is
+said_taken OneOrAll None is = absurd is
+said_taken OneOrAll (Some word) is = tt
+said_taken (Number low high) None is = absurd is
+said_taken (Number low high) (Some word) is = from_to low high (number_of word) is.1 is.2
+
+abbrev said : Head → Setting → Option ℕ
+said head s = number_said (Some (value_said (takes head s.name) s.value))
+
+-- a number that was given may follow the option
+number_taken : (head : Head) (given : List Setting) → AreSettings head given → (name : OptionName) → IfSome (number_said (values_of head given name)) (IsTaken (takes head name))
+number_taken head given are name = at (setting_of name given) refl
   where
-    at : (o : Option Setting) → setting_of name given ≡ o → IfSome (option_map number_of (option_and_then (λ s. s.value) o)) (IsFromTo low high)
+    at : (o : Option Setting) → setting_of name given ≡ o → IfSome (number_said (option_map (λ (s : Setting). value_said (takes head s.name) s.value) o)) (IsTaken (takes head name))
     at None e = tt
-    at (Some s) e = let f = found head name given s e are in value_in low high s.value (subst (λ (taking : Takes). IsValue taking s.value) (ap (takes head) (sym f.0) ∙ t) f.1)
-
--- and so is the one that stands for a number that was not given
-unwrap_in : (low high absent : ℕ) (o : Option ℕ) → IfSome o (IsFromTo low high) → IsFromTo low high absent → IsFromTo low high (unwrap_or o absent)
-unwrap_in low high absent None h d = d
-unwrap_in low high absent (Some n) h d = h
-
-value_there : (low high absent : ℕ) (value : Option Word) → IsValue (Number low high) value → IsFromTo low high (unwrap_or (option_map number_of value) absent)
-value_there low high absent None h = absurd h
-value_there low high absent (Some word) h = (h.1, h.2)
-
--- a required number
-given_in : (head : Head) (given : List Setting) → AreSettings head given → (name : OptionName) (low high absent : ℕ) → takes head name ≡ Number low high → IsTrue (is_given given name) → IsFromTo low high (unwrap_or (number_at given name) absent)
-given_in head given are name low high absent t is = at (setting_of name given) refl
-  where
-    at : (o : Option Setting) → setting_of name given ≡ o → IsFromTo low high (unwrap_or (option_map number_of (option_and_then (λ s. s.value) o)) absent)
-    at None e = absurd (both_ways (is_given given name) (ap (λ (o : Option Setting). is_some o) e) is)
-    at (Some s) e = let f = found head name given s e are in value_there low high absent s.value (subst (λ (taking : Takes). IsValue taking s.value) (ap (takes head) (sym f.0) ∙ t) f.1)
+    at (Some s) e = let f = found head name [] given s e are in subst (λ (n : OptionName). IfSome (said head s) (IsTaken (takes head n))) (sym f.0) (said_taken (takes head s.name) s.value f.1)
 
 -- an option that is not for these first words was not given
-none_given : (head : Head) (given : List Setting) → AreSettings head given → (name : OptionName) → IsFalse (is_for head name) → number_at given name ≡ None
+none_given : (head : Head) (given : List Setting) → AreSettings head given → (name : OptionName) → IsFalse (suits head name) → number_said (values_of head given name) ≡ None
 none_given head given are name other = at (setting_of name given) refl
   where
-    at : (o : Option Setting) → setting_of name given ≡ o → option_map number_of (option_and_then (λ s. s.value) o) ≡ None
+    at : (o : Option Setting) → setting_of name given ≡ o → number_said (option_map (λ (s : Setting). value_said (takes head s.name) s.value) o) ≡ None
     at None e = refl
-    at (Some s) e = let f = found head name given s e are in absurd (both_ways (is_for head name) other (ap (is_for head) f.0 ∙ f.2))
+    at (Some s) e = let f = found head name [] given s e are in absurd (both_ways (suits head name) other (ap (suits head) f.0 ∙ f.2))
 
--- ---- field by field
+said_or_taken : (low high absent : ℕ) (word : Option Word) → IsValue (Number low high) word → IsFromTo low high (unwrap_or (number_said (Some (value_said (Number low high) word))) absent)
+said_or_taken low high absent None is = absurd is
+said_or_taken low high absent (Some word) is = from_to low high (number_of word) is.1 is.2
 
-skeleton_within : (head : Head) (given : List Setting) → AreSettings head given → HasSkeletonRange (skeleton_of head given)
+-- a required number
+given_taken : (head : Head) (given : List Setting) → AreSettings head given → (name : OptionName) (low high absent : ℕ) → takes head name ≡ Number low high → IsTrue (is_given given name) → IsFromTo low high (number_or (values_of head given) name absent)
+given_taken head given are name low high absent t is = at (setting_of name given) refl
+  where
+    at : (o : Option Setting) → setting_of name given ≡ o → IsFromTo low high (unwrap_or (number_said (option_map (λ (s : Setting). value_said (takes head s.name) s.value) o)) absent)
+    at None e = absurd (both_ways (is_given given name) (ap (λ (o : Option Setting). is_some o) e) is)
+    at (Some s) e =
+        let f = found head name [] given s e are in
+        let taking : takes head s.name ≡ Number low high = ap (takes head) (sym f.0) ∙ t in
+        subst (λ (taking : Takes). IsFromTo low high (unwrap_or (number_said (Some (value_said taking s.value))) absent)) (sym taking)
+        (said_or_taken low high absent s.value (subst (λ (taking : Takes). IsValue taking s.value) taking f.1))
+
+-- ---- a field
+
+one_of : (test : Bool) (First Second : Type 0) → (IsTrue test → First) → (IsFalse test → Second) → OneOf test First Second
+one_of true First Second first second = first refl
+one_of false First Second first second = second refl
+
+or_taken : (P : ℕ → Type 0) (o : Option ℕ) (absent : ℕ) → IfSome o P → P absent → P (unwrap_or o absent)
+or_taken P None absent some none = none
+or_taken P (Some n) absent some none = some
+
+-- a field that may be absent
+optional_within : (head : Head) (given : List Setting) → AreSettings head given → (name : OptionName) → HasOptionalRange head name (number_said (values_of head given name))
+optional_within head given are name =
+    one_of (suits head name) (IfSome (number_said (values_of head given name)) (IsTaken (takes head name))) (number_said (values_of head given name) ≡ None)
+    (λ is. number_taken head given are name) (none_given head given are name)
+
+-- a field with a number where the option is absent, which may follow it too
+number_within : (head : Head) (given : List Setting) → AreSettings head given → (name : OptionName) (absent : ℕ) → IsTaken (takes head name) absent → HasRange head name absent (number_or (values_of head given) name absent)
+number_within head given are name absent default =
+    one_of (suits head name) (IsTaken (takes head name) (number_or (values_of head given) name absent)) (number_or (values_of head given) name absent ≡ absent)
+    (λ is. or_taken (IsTaken (takes head name)) (number_said (values_of head given name)) absent (number_taken head given are name) default)
+    (λ other. ap (λ (o : Option ℕ). unwrap_or o absent) (none_given head given are name other))
+
+workers_within : (head : Head) (given : List Setting) → AreSettings head given → HasRange head options.Workers 1 (workers_of head (values_of head given))
+workers_within head given are =
+    let n = workers_of head (values_of head given) in
+    let default : IsTaken (takes head options.Workers) 4 = (omega arith, omega arith) in
+    one_of (suits head options.Workers) (IsTaken (takes head options.Workers) n) (n ≡ 1)
+    (λ is. rw is (or_taken (IsTaken (takes head options.Workers)) (number_said (values_of head given options.Workers)) 4 (number_taken head given are options.Workers) default))
+    (λ other. rw other refl)
+
+skeleton_within : (head : Head) (given : List Setting) → AreSettings head given → HasSkeletonRange head (skeleton_of head (values_of head given))
 skeleton_within (Search problem coordinations.Sequential) given are = tt
-skeleton_within (Search problem coordinations.Depth) given are = unwrap_in 1 255 2 (number_at given options.Depth) (number_in (Search problem coordinations.Depth) given are options.Depth 1 255 refl) (omega arith, omega arith)
-skeleton_within (Search problem coordinations.Budget) given are = unwrap_in 1 4294967295 1000 (number_at given options.Budget) (number_in (Search problem coordinations.Budget) given are options.Budget 1 4294967295 refl) (omega arith, omega arith)
+skeleton_within (Search problem coordinations.Depth) given are = depth_taken (Search problem coordinations.Depth) given are
+  where
+    depth_taken : (head : Head) (given : List Setting) → AreSettings head given → IsFromTo 1 255 (number_or (values_of head given) options.Depth 2)
+    depth_taken head given are = or_taken (IsFromTo 1 255) (number_said (values_of head given options.Depth)) 2 (number_taken head given are options.Depth) (omega arith, omega arith)
+skeleton_within (Search problem coordinations.Budget) given are = or_taken (IsFromTo 1 4294967295) (number_said (values_of (Search problem coordinations.Budget) given options.Budget)) 1000 (number_taken (Search problem coordinations.Budget) given are options.Budget) (omega arith, omega arith)
 skeleton_within (Search problem coordinations.Steal) given are = tt
-skeleton_within (Search problem coordinations.Ordered) given are = unwrap_in 1 255 2 (number_at given options.Depth) (number_in (Search problem coordinations.Ordered) given are options.Depth 1 255 refl) (omega arith, omega arith)
+skeleton_within (Search problem coordinations.Ordered) given are = or_taken (IsFromTo 1 255) (number_said (values_of (Search problem coordinations.Ordered) given options.Depth)) 2 (number_taken (Search problem coordinations.Ordered) given are options.Depth) (omega arith, omega arith)
 skeleton_within (Make kind) given are = tt
 
-workers_in : (head : Head) (given : List Setting) → AreSettings head given → IsFromTo 1 64 (unwrap_or (number_at given options.Workers) 4)
-workers_in head given are = unwrap_in 1 64 4 (number_at given options.Workers) (number_in head given are options.Workers 1 64 refl) (omega arith, omega arith)
+size_within : (head : Head) (given : List Setting) → AreSettings head given → HasRequired head given → HasSizeRange (job_of head) (number_or (values_of head given) options.Size 0)
+size_within (Search problems.Knapsack coordination) given are has = ap (λ (o : Option ℕ). unwrap_or o 0) (none_given (Search problems.Knapsack coordination) given are options.Size refl)
+size_within (Search problem coordination) given are has = ap (λ (o : Option ℕ). unwrap_or o 0) (none_given (Search problem coordination) given are options.Size refl)
+size_within (Make made.Knapsack) given are has = given_taken (Make made.Knapsack) given are options.Size 1 256 0 refl has.1.0
+size_within (Make made.Tsp) given are has = given_taken (Make made.Tsp) given are options.Size 2 60 0 refl has.1.0
+size_within (Make made.Lad) given are has = given_taken (Make made.Lad) given are options.Size 0 1024 0 refl has.1.0
 
-workers_within : (head : Head) (given : List Setting) → AreSettings head given → HasWorkersRange (skeleton_of head given) (workers_of head given)
-workers_within (Search problem coordinations.Sequential) given are = refl
-workers_within (Search problem coordinations.Depth) given are = workers_in (Search problem coordinations.Depth) given are
-workers_within (Search problem coordinations.Budget) given are = workers_in (Search problem coordinations.Budget) given are
-workers_within (Search problem coordinations.Steal) given are = workers_in (Search problem coordinations.Steal) given are
-workers_within (Search problem coordinations.Ordered) given are = workers_in (Search problem coordinations.Ordered) given are
-workers_within (Make kind) given are = refl
-
-below_end : (high : ℕ) (o : Option ℕ) → IfSome o (IsFromTo 0 high) → IfSome o (λ n. n ≤ high)
-below_end high None h = tt
-below_end high (Some n) h = h.1
-
-target_within : (head : Head) (given : List Setting) → AreSettings head given → HasTargetRange (job_of head) (number_at given options.Target)
-target_within (Search problems.Knapsack coordination) given are = below_end 1099511627774 (number_at given options.Target) (number_in (Search problems.Knapsack coordination) given are options.Target 0 1099511627774 refl)
-target_within (Search problems.Tsp coordination) given are = none_given (Search problems.Tsp coordination) given are options.Target refl
-target_within (Search problems.Subgraph coordination) given are = none_given (Search problems.Subgraph coordination) given are options.Target refl
-target_within (Search problems.Semigroups coordination) given are = none_given (Search problems.Semigroups coordination) given are options.Target refl
-target_within (Make kind) given are = none_given (Make kind) given are options.Target refl
-
-zero_for : (head : Head) (given : List Setting) → AreSettings head given → (name : OptionName) → IsFalse (is_for head name) → unwrap_or (number_at given name) 0 ≡ 0
-zero_for head given are name other = ap (λ (o : Option ℕ). unwrap_or o 0) (none_given head given are name other)
-
-genus_within : (head : Head) (given : List Setting) → AreSettings head given → HasGenusRange (job_of head) (unwrap_or (number_at given options.Genus) 0)
-genus_within (Search problems.Knapsack coordination) given are = zero_for (Search problems.Knapsack coordination) given are options.Genus refl
-genus_within (Search problems.Tsp coordination) given are = zero_for (Search problems.Tsp coordination) given are options.Genus refl
-genus_within (Search problems.Subgraph coordination) given are = zero_for (Search problems.Subgraph coordination) given are options.Genus refl
-genus_within (Search problems.Semigroups coordination) given are = (unwrap_in 0 40 0 (number_at given options.Genus) (number_in (Search problems.Semigroups coordination) given are options.Genus 0 40 refl) (omega arith, omega arith)).1
-genus_within (Make kind) given are = zero_for (Make kind) given are options.Genus refl
-
-size_within : (head : Head) (given : List Setting) → AreSettings head given → HasRequired head given → HasSizeRange (job_of head) (unwrap_or (number_at given options.Size) 0)
-size_within (Search problems.Knapsack coordination) given are has = zero_for (Search problems.Knapsack coordination) given are options.Size refl
-size_within (Search problems.Tsp coordination) given are has = zero_for (Search problems.Tsp coordination) given are options.Size refl
-size_within (Search problems.Subgraph coordination) given are has = zero_for (Search problems.Subgraph coordination) given are options.Size refl
-size_within (Search problems.Semigroups coordination) given are has = zero_for (Search problems.Semigroups coordination) given are options.Size refl
-size_within (Make made.Knapsack) given are has = given_in (Make made.Knapsack) given are options.Size 1 256 0 refl has.1.0
-size_within (Make made.Tsp) given are has = given_in (Make made.Tsp) given are options.Size 2 60 0 refl has.1.0
-size_within (Make made.Lad) given are has = (given_in (Make made.Lad) given are options.Size 0 1024 0 refl has.1.0).1
+-- ---- the first words of a plan
 
 count_is : (head : Head) → file_count head ≡ file_count_of (job_of head)
 count_is (Search problems.Knapsack coordination) = refl
-count_is (Search problems.Tsp coordination) = refl
-count_is (Search problems.Subgraph coordination) = refl
-count_is (Search problems.Semigroups coordination) = refl
-count_is (Make kind) = refl
+count_is (Search _ coordination) = refl
+count_is (Make made.Knapsack) = refl
+count_is (Make _) = refl
 
-of_job : (head : Head) (given : List Setting) → HasSkeletonOf (job_of head) (skeleton_of head given)
-of_job (Search problems.Knapsack coordination) given = tt
-of_job (Search problems.Tsp coordination) given = tt
-of_job (Search problems.Subgraph coordination) given = tt
-of_job (Search problems.Semigroups coordination) given = tt
-of_job (Make kind) given = refl
+of_job : (head : Head) (v : Values) → HasSkeletonOf (job_of head) (skeleton_of head v)
+of_job (Search problems.Knapsack coordination) v = tt
+of_job (Search _ coordination) v = tt
+of_job (Make made.Knapsack) v = refl
+of_job (Make _) v = refl
+
+head_of-problem : (problem : Problem) (coordination : Coordination) → head_of (problem_row problem).job coordination ≡ Search problem coordination
+head_of-problem problems.Knapsack coordination = refl
+head_of-problem _ coordination = refl
+
+coordination_of-search : (problem : Problem) (coordination : Coordination) (v : Values) → coordination_of (skeleton_of (Search problem coordination) v) ≡ coordination
+coordination_of-search problem coordinations.Sequential v = refl
+coordination_of-search problem _ v = refl
+
+head_of-plan : (head : Head) (v : Values) → head_of (job_of head) (coordination_of (skeleton_of head v)) ≡ head
+head_of-plan (Search problem coordination) v =
+    head_of-problem problem (coordination_of (skeleton_of (Search problem coordination) v)) ∙ ap (λ (c : Coordination). Search problem c) (coordination_of-search problem coordination v)
+head_of-plan (Make made.Knapsack) v = refl
+head_of-plan (Make _) v = refl
 
 pub plan_within : (words : List Word) (plan : Planned) → PlanOf words plan → IsWithin plan
-plan_within words plan p = subst IsWithin (sym p.plan_is) (record {
-  of_job = of_job p.head p.settings;
-  skeleton = skeleton_within p.head p.settings p.are_settings;
-  workers = workers_within p.head p.settings p.are_settings;
-  target = target_within p.head p.settings p.are_settings;
-  genus = genus_within p.head p.settings p.are_settings;
-  size = size_within p.head p.settings p.are_settings p.has_required;
-  files = p.are_files.count ∙ count_is p.head;
-})
+plan_within words plan p =
+    let head = p.head in
+    let given = p.settings in
+    let are = p.are_settings in
+    let v = values_of head given in
+    let head_is : head ≡ head_of (job_of head) (coordination_of (skeleton_of head v)) = sym (head_of-plan head v) in
+    subst IsWithin (sym p.plan_is) (record {
+      of_job = of_job head v;
+      skeleton = subst (λ (h : Head). HasSkeletonRange h (skeleton_of head v)) head_is (skeleton_within head given are);
+      workers = subst (λ (h : Head). HasRange h options.Workers 1 (workers_of head v)) head_is (workers_within head given are);
+      target = subst (λ (h : Head). HasOptionalRange h options.Target (number_said (v options.Target))) head_is (optional_within head given are options.Target);
+      genus = subst (λ (h : Head). HasRange h options.Genus 0 (number_or v options.Genus 0)) head_is (number_within head given are options.Genus 0 (omega arith));
+      size = size_within head given are p.has_required;
+      files = p.are_files.count ∙ count_is head;
+    })

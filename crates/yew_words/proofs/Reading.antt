@@ -12,6 +12,7 @@ use Rattle.yew_words.specs.declared.plan.UsageKind.{UsageKind}
 use Rattle.yew_words.specs.declared.plan.UsageKind.TheVariants.{Missing, Unknown, NotFile, Repeated, NotNumber, OutOfRange, NotHere}
 use Rattle.yew_words.specs.declared.table.Head.{Head}
 use Rattle.yew_words.specs.declared.table.Head.TheVariants.{Search, Make}
+use Rattle.yew_words.specs.declared.plan.Made.TheVariants as made
 use Rattle.yew_words.specs.declared.table.Problem.TheVariants as problems
 use Rattle.yew_words.specs.declared.table.OptionName.{OptionName}
 use Rattle.yew_words.specs.declared.table.Takes.{Takes}
@@ -19,27 +20,26 @@ use Rattle.yew_words.specs.declared.table.Takes.TheVariants.{Nothing}
 use Rattle.yew_words.specs.declared.value.Value.{Value}
 use Rattle.yew_words.specs.declared.settings.Settings.{Settings}
 use Rattle.yew_words.specs.Word.{Word, texts, is_file_name}
-use Rattle.yew_words.specs.Table.{head_words, file_count, option_word, takes, required}
-use Rattle.yew_words.specs.Plans.{Setting, setting_words, is_given, AreSettings, AreFiles}
+use Rattle.yew_words.specs.Table.{Given, head_words, file_count, option_word, every_option, takes, is_for, required}
+use Rattle.yew_words.specs.Plans.{Planned, Setting, setting_words, value_said, is_given, AreSettings, AreFiles, plan_of, PlanOf}
 use Rattle.yew_words.specs.Offences.{DueFile, DueOption, DueValue, words_before, IsBadValue, IsOffence, IsRefused, Offending}
-use Rattle.yew_words.specs.Kept.{kept_of, index_of, kept_at, Keeps, NamesOption, RefusesName, TakesValue, RefusesValue, TakesSetting, RefusesSetting, ReadsSettings}
+use Rattle.yew_words.specs.Kept.{index_of, kept_at, is_kept, Keeps, NamesOption, RefusesName, TakesValue, RefusesValue, TakesSetting, RefusesSetting, ReadsSettings}
 use Rattle.yew_words.proofs.GivenOnes.{AreSettings-push}
 use Rattle.yew_words.proofs.Steps.{AreNames, AreNames-push}
 use Rattle.yew_words.proofs.Sound.{list_all-true, all-list_all}
 use Rattle.yew_words.proofs.Whole.{two_words}
-use Rattle.yew_words.proofs.KeptOnes.{kept_given, list_all-kept, Keeps-push, few_words}
+use Rattle.yew_words.proofs.KeptOnes.{kept_given, kept_values, Keeps-push, few_words}
 
 -- ---- the files' names
 
 abbrev Strings : Type 0
 Strings = List (String Global)
 
-pub few_files : (head : Head) → file_count head ≤ 2
+pub few_files : (head : Head) → file_count head ≤ 8
 few_files (Search problems.Knapsack coordination) = omega arith
-few_files (Search problems.Tsp coordination) = omega arith
-few_files (Search problems.Subgraph coordination) = omega arith
-few_files (Search problems.Semigroups coordination) = omega arith
-few_files (Make kind) = omega arith
+few_files (Search _ coordination) = omega arith
+few_files (Make made.Knapsack) = omega arith
+few_files (Make _) = omega arith
 
 -- one more
 pub names_more : (words : Strings) (i : ℕ) (word : String Global) → AreNames (texts (take i words)) → i < length words → get_or words i word ≡ word → IsTrue (is_file_name (string_bytes word)) → AreNames (texts (take (suc i) words))
@@ -90,8 +90,8 @@ refused_name head settings at word behind kind refuses files given are_files are
   where
     offence : (kind : UsageKind) → RefusesName head settings word kind → IsOffence (DueOption head files given) word kind
     offence Unknown h = h
-    offence NotHere h = h
-    offence Repeated h = (h.0, h.1, h.2, sym (kept_given head settings given keeps h.0) ∙ h.3)
+    offence NotHere h = (h.0, h.1, subst (λ (g : Given). IsFalse (is_for head g h.0)) (kept_given head settings given keeps) h.2)
+    offence Repeated h = let now = kept_given head settings given keeps in (h.0, h.1, subst (λ (g : Given). IsTrue (is_for head g h.0)) now h.2, subst (λ (g : Given). IsTrue (g h.0)) now h.3)
     offence Missing h = absurd h
     offence NotFile h = absurd h
     offence NotNumber h = absurd h
@@ -105,13 +105,19 @@ is_refused_value : (head : Head) (files : List Word) (given : List Setting) (nam
 is_refused_value head files given name [] kind h = (h.0, tt)
 is_refused_value head files given name (word ∷ words) kind h = h
 
+-- an option that may stand behind what is kept may stand behind what was given
+new_name : (head : Head) (settings : Settings) (given : List Setting) → Keeps head settings given → (word : Word) (name : OptionName) → NamesOption head settings word name → IsTrue (is_for head (is_given given) name) × IsFalse (is_given given name)
+new_name head settings given keeps word name names =
+    subst (λ (g : Given). IsTrue (is_for head g name) × IsFalse (g name)) (kept_given head settings given keeps) (names.is_for_head, names.is_new)
+
 pub refused_value : (head : Head) (settings : Settings) (at : ℕ) (word : Word) (behind : List Word) (name : OptionName) (kind : UsageKind) → NamesOption head settings word name → RefusesValue (takes head name) behind kind → RefusesSetting head settings at (word ∷ behind) (at + 1) kind
 refused_value head settings at word behind name kind names refuses files given are_files are keeps at_is =
     let front = words_before (DueOption head files given) in
+    let new = new_name head settings given keeps word name names in
     record {
       due = DueValue head files given name;
       rest = behind;
-      is_due = (are_files, are, names.is_for_head, sym (kept_given head settings given keeps name) ∙ names.is_new, takes_some (takes head name) behind kind refuses);
+      is_due = (are_files, are, new.0, new.1, takes_some (takes head name) behind kind refuses);
       words_are = ap (λ (w : Word). front ++ w ∷ behind) names.word_is ∙ sym (append_assoc front (option_word name ∷ []) behind);
       place_is = omega (arith, length-append front (option_word name ∷ []));
       is_refused = is_refused_value head files given name behind kind refuses;
@@ -120,12 +126,12 @@ refused_value head settings at word behind name kind names refuses files given a
 pub taken : (head : Head) (settings : Settings) (word : Word) (behind : List Word) (name : OptionName) (value : Value) (rest : List Word) → NamesOption head settings word name → TakesValue (takes head name) behind value rest → TakesSetting head settings (word ∷ behind) name value rest
 taken head settings word behind name value rest names takes_value given are keeps =
     let s : Setting = record { name = name; value = takes_value.word } in
-    let new : IsFalse (is_given given name) = sym (kept_given head settings given keeps name) ∙ names.is_new in
+    let new = new_name head settings given keeps word name names in
     record {
       setting = s;
-      are_settings = AreSettings-push head given s are names.is_for_head takes_value.is_value new;
+      are_settings = AreSettings-push head given s are (record { is_for_head = new.0; is_value = takes_value.is_value; is_new = new.1 });
       words_are = ap (λ (w : Word). w ∷ behind) names.word_is ∙ ap (λ (ws : List Word). option_word name ∷ ws) takes_value.words_are;
-      is_new = new;
+      is_new = new.1;
       name_is = refl;
       value_is = takes_value.value_is;
     }
@@ -134,14 +140,14 @@ taken head settings word behind name value rest names takes_value given are keep
 
 -- Where the reader stands: the options so far are kept, the rest is to come, and its first word has this place.
 pub record Reading (head : Head) (files words : List Word) (settings : Settings) (place : ℕ) (rest : List Word) : Type 0 where
-  pub count : length settings.values ≡ 11
+  pub count : length settings.values ≡ length every_option
   pub given : List Setting
   pub are_settings : AreSettings head given
   pub keeps : Keeps head settings given
   pub words_are : words ≡ flat_map setting_words given ++ rest
   pub place_is : place ≡ suc (length (words_before (DueOption head files given)))
 
-pub reading_begins : (head : Head) (files words : List Word) (settings : Settings) → length settings.values ≡ 11 → ((name : OptionName) → kept_at settings name ≡ None) → Reading head files words settings (3 + length files) words
+pub reading_begins : (head : Head) (files words : List Word) (settings : Settings) → length settings.values ≡ length every_option → ((name : OptionName) → kept_at settings name ≡ None) → Reading head files words settings (3 + length files) words
 reading_begins head files words settings count empty = record {
   count = count;
   given = [];
@@ -152,7 +158,7 @@ reading_begins head files words settings count empty = record {
 }
 
 -- its place is small, since each option stands at most once
-pub place_small : (head : Head) (files words : List Word) (settings : Settings) (place : ℕ) (rest : List Word) → AreFiles head files → Reading head files words settings place rest → place < 30
+pub place_small : (head : Head) (files words : List Word) (settings : Settings) (place : ℕ) (rest : List Word) → AreFiles head files → Reading head files words settings place rest → place < 62
 place_small head files words settings place rest are_files r =
     let front = head_words head ++ files in
     let count : length files ≡ file_count head = are_files.count in
@@ -165,7 +171,7 @@ reading_goes_on head files words old new place rest name value left r takes_sett
     let front = head_words head ++ files in
     let so_far = flat_map setting_words r.given in
     let longer : flat_map setting_words (r.given ++ s ∷ []) ≡ so_far ++ setting_words s = flat_map-push r.given s in
-    let set_is : new.values ≡ slice_set old.values (index_of s.name) (Some (kept_of head s)) = set ∙ ap (λ (n : OptionName). slice_set old.values (index_of n) (Some value)) more.name_is ∙ ap (λ (v : Value). slice_set old.values (index_of s.name) (Some v)) more.value_is in
+    let set_is : new.values ≡ slice_set old.values (index_of s.name) (Some (value_said (takes head s.name) s.value)) = set ∙ ap (λ (n : OptionName). slice_set old.values (index_of n) (Some value)) more.name_is ∙ ap (λ (v : Value). slice_set old.values (index_of s.name) (Some v)) more.value_is in
     record {
       count = ap (λ (vs : List (Option Value)). length vs) set ∙ length-set old.values (index_of name) (Some value) ∙ r.count;
       given = r.given ++ s ∷ [];
@@ -207,23 +213,41 @@ reading_refused head files words settings place rest at kind are_files r refuses
 all_words : (words rest so_far : List Word) → words ≡ so_far ++ rest → rest ≡ [] → words ≡ so_far
 all_words words rest so_far e ended = e ∙ ap (λ (ws : List Word). so_far ++ ws) ended ∙ append-nil so_far
 
-pub reading_missing : (head : Head) (files words : List Word) (settings : Settings) (place : ℕ) (rest : List Word) → AreFiles head files → Reading head files words settings place rest → rest ≡ [] → list_all (λ name. is_some (kept_at settings name)) (required head) ≡ false → Offending (head_words head ++ files ++ words) place Missing
+-- the required options are those that the settings leave, and are kept where they were given
+required_kept : (head : Head) (settings : Settings) (given : List Setting) → Keeps head settings given → list_all (is_kept settings) (required head (is_kept settings)) ≡ list_all (is_given given) (required head (is_given given))
+required_kept head settings given keeps = ap (λ (g : Given). list_all g (required head g)) (kept_given head settings given keeps)
+
+pub reading_missing : (head : Head) (files words : List Word) (settings : Settings) (place : ℕ) (rest : List Word) → AreFiles head files → Reading head files words settings place rest → rest ≡ [] → list_all (is_kept settings) (required head (is_kept settings)) ≡ false → Offending (head_words head ++ files ++ words) place Missing
 reading_missing head files words settings place rest are_files r ended absent =
     let front = head_words head ++ files in
+    let names = required head (is_given r.given) in
     record {
       due = DueOption head files r.given;
       rest = [];
       is_due = (are_files, r.are_settings);
       words_are = ap (λ (ws : List Word). front ++ ws) (all_words words rest (flat_map setting_words r.given) r.words_are ended) ∙ sym (append-nil (words_before (DueOption head files r.given)));
       place_is = r.place_is;
-      is_refused = (refl, λ has. both_ways (list_all (is_given r.given) (required head)) (sym (list_all-kept head settings r.given r.keeps (required head)) ∙ absent) (all-list_all (is_given r.given) (required head) has));
+      is_refused = (refl, λ has. both_ways (list_all (is_given r.given) names) (sym (required_kept head settings r.given r.keeps) ∙ absent) (all-list_all (is_given r.given) names has));
     }
 
-pub reading_ends : (head : Head) (files words : List Word) (settings : Settings) (place : ℕ) (rest : List Word) → Reading head files words settings place rest → rest ≡ [] → list_all (λ name. is_some (kept_at settings name)) (required head) ≡ true → ReadsSettings head words settings
+pub reading_ends : (head : Head) (files words : List Word) (settings : Settings) (place : ℕ) (rest : List Word) → Reading head files words settings place rest → rest ≡ [] → list_all (is_kept settings) (required head (is_kept settings)) ≡ true → ReadsSettings head words settings
 reading_ends head files words settings place rest r ended all = record {
   given = r.given;
   words_are = all_words words rest (flat_map setting_words r.given) r.words_are ended;
   are_settings = r.are_settings;
-  has_required = list_all-true (is_given r.given) (required head) (sym (list_all-kept head settings r.given r.keeps (required head)) ∙ all);
+  has_required = list_all-true (is_given r.given) (required head (is_given r.given)) (sym (required_kept head settings r.given r.keeps) ∙ all);
   keeps = r.keeps;
+}
+
+-- what is made of what is kept is the plan of the words
+pub plan_read : (head : Head) (files words rest : List Word) (settings : Settings) (plan : Planned) → words ≡ head_words head ++ files ++ rest → AreFiles head files → ReadsSettings head rest settings → plan ≡ plan_of head files (kept_at settings) → PlanOf words plan
+plan_read head files words rest settings plan words_are are_files r plan_is = record {
+  head = head;
+  files = files;
+  settings = r.given;
+  words_are = words_are ∙ ap (λ (ws : List Word). head_words head ++ files ++ ws) r.words_are;
+  are_files = are_files;
+  are_settings = r.are_settings;
+  has_required = r.has_required;
+  plan_is = plan_is ∙ ap (plan_of head files) (kept_values head settings r.given r.keeps);
 }

@@ -9,7 +9,7 @@ use Rattle.yew_words.specs.declared.plan.UsageKind.TheVariants.{Missing}
 use Rattle.yew_words.specs.Word.{Word}
 use Rattle.yew_words.specs.declared.table.OptionName.{OptionName}
 use Rattle.yew_words.specs.Table.{required}
-use Rattle.yew_words.specs.Plans.{Planned, is_given, plan_of, PlanOf}
+use Rattle.yew_words.specs.Plans.{Planned, is_given, values_of, plan_of, PlanOf}
 use Rattle.yew_words.specs.Offences.{Due, DueJob, DueSkeleton, DueMade, DueFile, DueOption, DueValue, words_before, IsDue, MayNotEnd, Offending}
 use Rattle.yew_words.proofs.Judge.{Fault, after, at_end, ended, go_on, judge_from, judge}
 use Rattle.yew_words.proofs.Steps.{after_next, after_fault}
@@ -41,10 +41,10 @@ ends (DueValue head files ss name) d = missing (DueValue head files ss name) d t
 ends (DueOption head files ss) d =
     let words = words_before (DueOption head files ss) in
     let place = suc (length words) in
-    let P : Bool → Type 0 = λ b. Answers words (ended place (cond b (Ok (plan_of head files ss)) (Err Missing))) in
-    elim (cases_Bool (list_all (is_given ss) (required head))) [
-      | inl all ↦ subst P (sym all) (record { head = head; files = files; settings = ss; words_are = refl; are_files = d.0; are_settings = d.1; has_required = list_all-true (is_given ss) (required head) all; plan_is = refl })
-      | inr not_all ↦ subst P (sym not_all) (missing (DueOption head files ss) d (λ has. both_ways (list_all (is_given ss) (required head)) not_all (all-list_all (is_given ss) (required head) has)))
+    let P : Bool → Type 0 = λ b. Answers words (ended place (cond b (Ok (plan_of head files (values_of head ss))) (Err Missing))) in
+    elim (cases_Bool (list_all (is_given ss) (required head (is_given ss)))) [
+      | inl all ↦ subst P (sym all) (record { head = head; files = files; settings = ss; words_are = refl; are_files = d.0; are_settings = d.1; has_required = list_all-true (is_given ss) (required head (is_given ss)) all; plan_is = refl })
+      | inr not_all ↦ subst P (sym not_all) (missing (DueOption head files ss) d (λ has. both_ways (list_all (is_given ss) (required head (is_given ss))) not_all (all-list_all (is_given ss) (required head (is_given ss)) has)))
     ]
 
 pub judge_step : (due : Due) (place : ℕ) (word : Word) (words : List Word) (next : Due) → after due word ≡ Ok next → judge_from due place (word ∷ words) ≡ judge_from next (suc place) words

@@ -98,10 +98,10 @@ file_next head files word next due e =
 pub setting_words-push : (front : List Word) (ss : List Setting) (s : Setting) → front ++ flat_map setting_words (ss ++ s ∷ []) ≡ front ++ flat_map setting_words ss ++ setting_words s
 setting_words-push front ss s = ap (λ (ws : List Word). front ++ ws) (flat_map-append setting_words ss (s ∷ []) ∙ ap (λ (ws : List Word). flat_map setting_words ss ++ ws) (append-nil (setting_words s))) ∙ sym (append_assoc front (flat_map setting_words ss) (setting_words s))
 
-name_next : (head : Head) (files : List Word) (ss : List Setting) (name : OptionName) (t : Takes) → takes head name ≡ t → IsDue (DueOption head files ss) → IsTrue (is_for head name) → IsFalse (is_given ss name) → Follows (words_before (DueOption head files ss)) (option_word name) (after_name head files ss name t)
+name_next : (head : Head) (files : List Word) (ss : List Setting) (name : OptionName) (t : Takes) → takes head name ≡ t → IsDue (DueOption head files ss) → IsTrue (is_for head (is_given ss) name) → IsFalse (is_given ss name) → Follows (words_before (DueOption head files ss)) (option_word name) (after_name head files ss name t)
 name_next head files ss name Nothing q due for' new =
     let s : Setting = record { name = name; value = None } in
-    ((due.0, AreSettings-push head ss s due.1 for' (subst (λ (t : Takes). IsValue t None) (sym q) tt) new), setting_words-push (head_words head ++ files) ss s)
+    ((due.0, AreSettings-push head ss s due.1 (record { is_for_head = for'; is_value = subst (λ (t : Takes). IsValue t None) (sym q) tt; is_new = new })), setting_words-push (head_words head ++ files) ss s)
 name_next head files ss name OneOrAll q due for' new = ((due.0, due.1, for', new, λ h. let k : OneOrAll ≡ Nothing = sym q ∙ h in cc), refl)
 name_next head files ss name (Number low high) q due for' new = ((due.0, due.1, for', new, λ h. let k : Number low high ≡ Nothing = sym q ∙ h in cc), refl)
 
@@ -110,7 +110,7 @@ option_next head files ss word None next q due e = absurd (err_ok Unknown next e
 option_next head files ss word (Some name) next q due e =
     let then : Result Due UsageKind = Ok (after_name head files ss name (takes head name)) in
     let inner : Result Due UsageKind = cond (is_given ss name) (Err Repeated) then in
-    elim (cases_Bool (is_for head name)) [
+    elim (cases_Bool (is_for head (is_given ss) name)) [
       | inl for' ↦ let e2 : inner ≡ Ok next = subst (λ (b : Bool). cond b inner (Err NotHere) ≡ Ok next) for' e in
           elim (cases_Bool (is_given ss name)) [
             | inl given ↦ absurd (err_ok Repeated next (subst (λ (b : Bool). cond b (Err Repeated) then ≡ Ok next) given e2))
@@ -144,7 +144,7 @@ value_next : (head : Head) (files : List Word) (ss : List Setting) (name : Optio
 value_next head files ss name word None next q due e =
     let s : Setting = record { name = name; value = Some word } in
     subst (Follows (words_before (DueValue head files ss name)) word) (ok_is (DueOption head files (ss ++ s ∷ [])) next e)
-    ((due.0, AreSettings-push head ss s due.1 due.2 (no_fault (takes head name) word due.4 q) due.3), setting_words-push (head_words head ++ files) ss s ∙ sym (append_assoc (head_words head ++ files ++ flat_map setting_words ss) (option_word name ∷ []) (word ∷ [])))
+    ((due.0, AreSettings-push head ss s due.1 (record { is_for_head = due.2; is_value = no_fault (takes head name) word due.4 q; is_new = due.3 })), setting_words-push (head_words head ++ files) ss s ∙ sym (append_assoc (head_words head ++ files ++ flat_map setting_words ss) (option_word name ∷ []) (word ∷ [])))
 value_next head files ss name word (Some kind) next q due e = absurd (err_ok kind next e)
 
 -- A word that is taken leads on.
@@ -189,7 +189,7 @@ option_fault head files ss word (Some name) kind q e =
     let then : Result Due UsageKind = Ok (after_name head files ss name (takes head name)) in
     let inner : Result Due UsageKind = cond (is_given ss name) (Err Repeated) then in
     let word_is = named_is option_word every_option word name q in
-    elim (cases_Bool (is_for head name)) [
+    elim (cases_Bool (is_for head (is_given ss) name)) [
       | inl for' ↦ let e2 : inner ≡ Err kind = subst (λ (b : Bool). cond b inner (Err NotHere) ≡ Err kind) for' e in
           elim (cases_Bool (is_given ss name)) [
             | inl given ↦ subst (IsOffence (DueOption head files ss) word) (err_is Repeated kind (subst (λ (b : Bool). cond b (Err Repeated) then ≡ Err kind) given e2)) (name, word_is, for', given)

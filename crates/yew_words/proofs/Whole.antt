@@ -13,13 +13,13 @@ use Rattle.yew_words.specs.declared.table.Takes.{Takes}
 use Rattle.yew_words.specs.declared.table.Head.TheVariants.{Search, Make}
 use Rattle.yew_words.specs.declared.table.Takes.TheVariants.{Nothing, OneOrAll, Number}
 use Rattle.yew_words.specs.Table.{problem_word, coordination_word, made_word, head_words, file_count, option_word, takes, is_for, required}
-use Rattle.yew_words.specs.Plans.{Planned, Setting, setting_words, IsValue, is_given, AreSettings, AreFiles, plan_of, PlanOf}
+use Rattle.yew_words.specs.Plans.{Planned, Setting, setting_words, IsValue, is_given, values_of, AreSettings, AreFiles, plan_of, PlanOf}
 use Rattle.yew_words.specs.Offences.{Due, DueJob, DueSkeleton, DueMade, DueFile, DueOption, DueValue, words_before, IsDue, IsBadValue, IsOffence, MayNotEnd, IsRefused, Offending}
 use Rattle.yew_words.specs.Table.{every_problem, every_coordination, every_made, every_option}
 use Rattle.yew_words.specs.Kept.{value_fault}
 use Rattle.yew_words.proofs.Judge.{due_files, after_problem, after_coordination, after_made, after_name, after_option, after_value, after, at_end, ended, judge_from, judge}
 use Rattle.yew_words.proofs.Names.{differs, named_problem, named_coordination, named_made, named_option, unnamed}
-use Rattle.yew_words.proofs.GivenOnes.{AreSettings-at, AreSettings-new}
+use Rattle.yew_words.proofs.GivenOnes.{AreSettings-at}
 use Rattle.yew_words.proofs.Steps.{AreNames}
 use Rattle.yew_words.proofs.Sound.{list_all-true, all-list_all, judge_step, judge_stop, judge_end}
 
@@ -73,7 +73,7 @@ value_taken head name OneOrAll word (inl one) = rw one refl
 value_taken head name OneOrAll word (inr all) = rw all refl
 value_taken head name (Number low high) word h = rw (h.0, and_from (nat_le low (number_of word)) (nat_le (number_of word) high) (le-leb low (number_of word) h.1) (le-leb (number_of word) high h.2)) refl
 
-module _ (head : Head) (files : List Word) (given : List Setting) (name : OptionName) (for' : IsTrue (is_for head name)) (new : IsFalse (is_given given name)) where
+module _ (head : Head) (files : List Word) (given : List Setting) (name : OptionName) (for' : IsTrue (is_for head (is_given given) name)) (new : IsFalse (is_given given name)) where
   name_taken : after (DueOption head files given) (option_word name) ≡ Ok (after_name head files given name (takes head name))
   name_taken = rw (named_option name, for', new) refl
 
@@ -97,11 +97,10 @@ module _ (head : Head) (files : List Word) (given : List Setting) (name : Option
 from_settings : (head : Head) (files : List Word) (given ss : List Setting) (place : ℕ) (rest : List Word) → AreSettings head (given ++ ss) → judge_from (DueOption head files given) place (flat_map setting_words ss ++ rest) ≡ judge_from (DueOption head files (given ++ ss)) (place + length (flat_map setting_words ss)) rest
 from_settings head files given [] place rest are = rw (append-nil given) (ap (λ (p : ℕ). judge_from (DueOption head files given) p rest) (let e : place ≡ place + 0 = omega arith in e))
 from_settings head files given (s ∷ ss) place rest are =
-    let at = AreSettings-at head given s ss are in
-    let new = AreSettings-new head given s ss are in
+    let may = AreSettings-at head given s ss are in
     let words = setting_words s in
     let more = flat_map setting_words ss in
-    let one = one_setting head files given s.name at.0 new (takes head s.name) refl s.value place (more ++ rest) at.1 in
+    let one = one_setting head files given s.name may.is_for_head may.is_new (takes head s.name) refl s.value place (more ++ rest) may.is_value in
     let two = from_settings head files (given ++ s ∷ []) ss (place + length words) rest (subst (AreSettings head) (sym (append_assoc given (s ∷ []) ss)) are) in
     let place_is : place + length words + length more ≡ place + length (words ++ more) = omega (arith, length-append words more) in
     ap (judge_from (DueOption head files given) place) (append_assoc words more rest) ∙ one ∙ two
@@ -163,7 +162,7 @@ end_missing DueMade h = refl
 end_missing (DueFile head files) h = refl
 end_missing (DueValue head files ss name) h = refl
 end_missing (DueOption head files ss) h =
-    elim (cases_Bool (list_all (is_given ss) (required head))) [ inl all ↦ absurd (h (list_all-true (is_given ss) (required head) all)) | inr not_all ↦ rw not_all refl ]
+    elim (cases_Bool (list_all (is_given ss) (required head (is_given ss)))) [ inl all ↦ absurd (h (list_all-true (is_given ss) (required head (is_given ss)) all)) | inr not_all ↦ rw not_all refl ]
 
 refused : (due : Due) (place : ℕ) (rest : List Word) (kind : UsageKind) → IsRefused due rest kind → judge_from due place rest ≡ Err (record { place = place; kind = kind })
 refused due place [] kind h = judge_end due place ∙ ap (ended place) (end_missing due h.1) ∙ ap (λ (k : UsageKind). Err (record { place = place; kind = k })) (sym h.0)
@@ -175,7 +174,7 @@ plan_judged words plan p =
     let due = DueOption p.head p.files p.settings in
     let place = suc (length (words_before due)) in
     ap judge (p.words_are ∙ sym (append-nil (words_before due))) ∙ leads_to_options p.head p.files p.settings p.are_files p.are_settings []
-    ∙ judge_end due place ∙ ap (λ (b : Bool). ended place (cond b (Ok (plan_of p.head p.files p.settings)) (Err Missing))) (all-list_all (is_given p.settings) (required p.head) p.has_required)
+    ∙ judge_end due place ∙ ap (λ (b : Bool). ended place (cond b (Ok (plan_of p.head p.files (values_of p.head p.settings))) (Err Missing))) (all-list_all (is_given p.settings) (required p.head (is_given p.settings)) p.has_required)
     ∙ ap (λ (x : Planned). Ok x) (sym p.plan_is)
 
 -- The first offence is the answer.

@@ -15,10 +15,10 @@ pub returns-in-Ok-read_value-clause-option : goal.returns-in-Ok-read_value-claus
 returns-in-Ok-read_value-clause-option c =
     subst (λ (w : Word). TakesSetting c.args.head c.args.settings.now (w ∷ texts c.args.behind.now) c.in-Ok.name c.in-Ok-read_value.value (texts c.in-Ok-read_value.rest.now)) c.deref.ensures
     (taken c.args.head c.args.settings.now c.deref.result.now (texts c.args.behind.now) c.in-Ok.name c.in-Ok-read_value.value (texts c.in-Ok-read_value.rest.now) c.in-Ok.ensures.option
-    (subst (λ (t : Takes). TakesValue t (texts c.args.behind.now) c.in-Ok-read_value.value (texts c.in-Ok-read_value.rest.now)) c.takes.ensures c.in-Ok-read_value.ensures.value))
+    (subst (λ (t : Takes). TakesValue t (texts c.args.behind.now) c.in-Ok-read_value.value (texts c.in-Ok-read_value.rest.now)) c.follows.ensures c.in-Ok-read_value.ensures.value))
 
 pub returns-in-Err-read_value-clause-offence : goal.returns-in-Err-read_value-clause-offence
 returns-in-Err-read_value-clause-offence c =
     subst (λ (w : Word). RefusesSetting c.args.head c.args.settings.now c.args.place (w ∷ texts c.args.behind.now) (c.args.place + 1) c.in-Err-read_value.kind) c.deref.ensures
     (refused_value c.args.head c.args.settings.now c.args.place c.deref.result.now (texts c.args.behind.now) c.in-Ok.name c.in-Err-read_value.kind c.in-Ok.ensures.option
-    (subst (λ (t : Takes). RefusesValue t (texts c.args.behind.now) c.in-Err-read_value.kind) c.takes.ensures c.in-Err-read_value.ensures.fault))
+    (subst (λ (t : Takes). RefusesValue t (texts c.args.behind.now) c.in-Err-read_value.kind) c.follows.ensures c.in-Err-read_value.ensures.fault))
