@@ -1,5 +1,5 @@
 -- Exactly one answer.
-use Rattle.std.proofs.Common.{◌≡◌, ℕ, ◌↔◌, List, Result, Ok, Err, refl, sym, ap, subst, ◌∙◌, inl, inr}
+use Rattle.std.proofs.Common.{◌≡◌, ℕ, List, Result, Ok, Err, refl, sym, ap, ◌∙◌, inl, inr}
 use Rattle.yew_words.specs.declared.plan.UsageKind.{UsageKind}
 use Rattle.yew_words.specs.Word.{Word}
 use Rattle.std.specs.Prelude.{IfOk, IfErr, IsOkAnd}
@@ -31,12 +31,6 @@ answered words (Err fault) e h = inr (record {
 
 pub one_answer : (words : List Word) → HasOneAnswer words
 one_answer words = answered words (judge words) refl (judge_answers words)
-
-pub plans : (words : List Word) (plan : Planned) → (judge words ≡ Ok plan) ↔ PlanOf words plan
-plans words plan = (λ e. subst (Answers words) e (judge_answers words), plan_judged words plan)
-
-pub offences : (words : List Word) (place : ℕ) (kind : UsageKind) → (judge words ≡ Err (record { place = place; kind = kind })) ↔ Offending words place kind
-offences words place kind = (λ e. subst (Answers words) e (judge_answers words), offence_judged words place kind)
 
 -- ---- a reader that answers a plan of the words or their first offence answers each one that there is
 

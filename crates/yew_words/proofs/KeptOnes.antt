@@ -51,10 +51,6 @@ pub kept_given : (head : Head) (settings : Settings) (given : List Setting) → 
 kept_given head settings given keeps =
     fun_ext (λ name. ap (λ (o : Option Value). is_some o) (keeps name) ∙ is_some-option_map (λ (s : Setting). value_said (takes head s.name) s.value) (setting_of name given))
 
--- and so are their values
-pub kept_values : (head : Head) (settings : Settings) (given : List Setting) → Keeps head settings given → kept_at settings ≡ values_of head given
-kept_values head settings given keeps = fun_ext keeps
-
 -- a setting that is found has the name, is for these first words and has its value
 pub found : (head : Head) (name : OptionName) (before given : List Setting) (s : Setting) → setting_of name given ≡ Some s → AreBehind head before given → (name ≡ s.name) × IsValue (takes head s.name) s.value × IsTrue (suits head s.name)
 found head name before [] s e are = absurd (none-some s e)

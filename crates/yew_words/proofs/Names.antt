@@ -25,10 +25,6 @@ own_word w = (bytes_eq-Decides w w).1 refl
 pub other_word : (v w : Word) → bytes_eq v w ≡ false → v ≢ w
 other_word v w e h = both_ways (bytes_eq v w) e ((bytes_eq-Decides v w).1 h)
 
--- the order of the two does not matter
-pub other_way : (v w : Word) → bytes_eq v w ≡ false → bytes_eq w v ≡ false
-other_way v w e = elim (cases_Bool (bytes_eq w v)) [ inl h ↦ absurd (other_word v w e (sym (same_word w v h))) | inr h ↦ h ]
-
 -- what differs has another word
 pub differs : (v w : Word) → v ≢ w → bytes_eq v w ≡ false
 differs v w h = elim (cases_Bool (bytes_eq v w)) [ inl e ↦ absurd (h (same_word v w e)) | inr e ↦ e ]

@@ -1,13 +1,14 @@
 -- What the reader's steps come to.
-use Rattle.std.proofs.Common.{◌≡◌, ◌≢◌, ℕ, suc, ◌+◌, ◌-◌, ◌<◌, ◌≤◌, true, false, List, [], ◌∷◌, ◌++◌, length, Option, Some, None, refl, sym, ap, subst, ◌∙◌, append_assoc, get_or, take, drop, arith}
-use Rattle.std.specs.Prelude.{IsTrue, IsFalse, is_some, flat_map, slice_set, String, string_bytes}
+use Rattle.std.proofs.Common.{◌≡◌, ◌≢◌, ℕ, suc, ◌+◌, ◌-◌, ◌<◌, ◌≤◌, true, false, List, [], ◌∷◌, ◌++◌, length, Option, Some, Result, Ok, Err, refl, sym, ap, subst, ◌∙◌, append_assoc, get_or, take, drop, arith}
+use Rattle.std.specs.Prelude.{IfErr, IsTrue, IsFalse, flat_map, slice_set, String, string_bytes}
 use Rattle.std.specs.List.{list_all}
 use Rattle.std.specs.Option.{option_to_list}
 use Rattle.std.specs.declared.alloc.Global.{Global}
-use Rattle.std.proofs.Math.Seq.{take-suc, drop-cons}
+use Rattle.std.proofs.Math.Seq.{drop-cons}
 use Rattle.std.proofs.lemmas.Bool.{both_ways}
 use Rattle.std.proofs.lemmas.List.Concat.{flat_map-append}
 use Rattle.std.proofs.lemmas.List.{append-nil, length-append, length-map, length-set, map-append, take-append-drop, take_all, length-take-le}
+use Rattle.yew_words.specs.declared.plan.Usage.{Usage}
 use Rattle.yew_words.specs.declared.plan.UsageKind.{UsageKind}
 use Rattle.yew_words.specs.declared.plan.UsageKind.TheVariants.{Missing, Unknown, NotFile, Repeated, NotNumber, OutOfRange, NotHere}
 use Rattle.yew_words.specs.declared.table.Head.{Head}
@@ -25,10 +26,10 @@ use Rattle.yew_words.specs.Plans.{Planned, Setting, setting_words, value_said, i
 use Rattle.yew_words.specs.Offences.{DueFile, DueOption, DueValue, words_before, IsBadValue, IsOffence, IsRefused, Offending}
 use Rattle.yew_words.specs.Kept.{index_of, kept_at, is_kept, Keeps, NamesOption, RefusesName, TakesValue, RefusesValue, TakesSetting, RefusesSetting, ReadsSettings}
 use Rattle.yew_words.proofs.GivenOnes.{AreSettings-push}
-use Rattle.yew_words.proofs.Steps.{AreNames, AreNames-push}
+use Rattle.yew_words.proofs.Steps.{AreNames}
 use Rattle.yew_words.proofs.Sound.{list_all-true, all-list_all}
 use Rattle.yew_words.proofs.Whole.{two_words}
-use Rattle.yew_words.proofs.KeptOnes.{kept_given, kept_values, Keeps-push, few_words}
+use Rattle.yew_words.proofs.KeptOnes.{kept_given, Keeps-push, few_words}
 
 -- ---- the files' names
 
@@ -40,12 +41,6 @@ few_files (Search problems.Knapsack coordination) = omega arith
 few_files (Search _ coordination) = omega arith
 few_files (Make made.Knapsack) = omega arith
 few_files (Make _) = omega arith
-
--- one more
-pub names_more : (words : Strings) (i : ℕ) (word : String Global) → AreNames (texts (take i words)) → i < length words → get_or words i word ≡ word → IsTrue (is_file_name (string_bytes word)) → AreNames (texts (take (suc i) words))
-names_more words i word names within is name =
-    let front : take (suc i) words ≡ take i words ++ word ∷ [] = take-suc words i word within ∙ ap (λ (w : String Global). take i words ++ w ∷ []) is in
-    subst AreNames (sym (ap texts front ∙ map-append string_bytes (take i words) (word ∷ []))) (AreNames-push (texts (take i words)) (string_bytes word) names name)
 
 -- the words end too early
 pub file_missing : (head : Head) (words : Strings) (i : ℕ) → AreNames (texts (take i words)) → i ≤ length words → length words ≤ i → i < file_count head → Offending (head_words head ++ texts words) (3 + i) Missing
@@ -78,13 +73,9 @@ file_refused head words i word names within is few bad =
       is_refused = bad;
     }
 
--- all of them
-pub files_read : (head : Head) (words : Strings) (count : ℕ) → count ≡ file_count head → AreNames (texts (take count words)) → count ≤ length words → AreFiles head (texts (take count words))
-files_read head words count is names within = record { count = length-map (take count words) string_bytes ∙ length-take-le count words within ∙ is; names = names }
-
 -- ---- an option
 
-pub refused_name : (head : Head) (settings : Settings) (at : ℕ) (word : Word) (behind : List Word) (kind : UsageKind) → RefusesName head settings word kind → RefusesSetting head settings at (word ∷ behind) at kind
+refused_name : (head : Head) (settings : Settings) (at : ℕ) (word : Word) (behind : List Word) (kind : UsageKind) → RefusesName head settings word kind → RefusesSetting head settings at (word ∷ behind) at kind
 refused_name head settings at word behind kind refuses files given are_files are keeps at_is =
     record { due = DueOption head files given; rest = word ∷ behind; is_due = (are_files, are); words_are = refl; place_is = at_is; is_refused = offence kind refuses }
   where
@@ -110,7 +101,7 @@ new_name : (head : Head) (settings : Settings) (given : List Setting) → Keeps 
 new_name head settings given keeps word name names =
     subst (λ (g : Given). IsTrue (is_for head g name) × IsFalse (g name)) (kept_given head settings given keeps) (names.is_for_head, names.is_new)
 
-pub refused_value : (head : Head) (settings : Settings) (at : ℕ) (word : Word) (behind : List Word) (name : OptionName) (kind : UsageKind) → NamesOption head settings word name → RefusesValue (takes head name) behind kind → RefusesSetting head settings at (word ∷ behind) (at + 1) kind
+refused_value : (head : Head) (settings : Settings) (at : ℕ) (word : Word) (behind : List Word) (name : OptionName) (kind : UsageKind) → NamesOption head settings word name → RefusesValue (takes head name) behind kind → RefusesSetting head settings at (word ∷ behind) (at + 1) kind
 refused_value head settings at word behind name kind names refuses files given are_files are keeps at_is =
     let front = words_before (DueOption head files given) in
     let new = new_name head settings given keeps word name names in
@@ -122,6 +113,19 @@ refused_value head settings at word behind name kind names refuses files given a
       place_is = omega (arith, length-append front (option_word name ∷ []));
       is_refused = is_refused_value head files given name behind kind refuses;
     }
+
+-- a reader that gives the place and the kind gives the offence
+pub name_refused : {A : Type 0} (r : Result A Usage) (head : Head) (settings : Settings) (at : ℕ) (word named : Word) (behind : List Word) → word ≡ named → IfErr r (λ usage. RefusesName head settings word usage.kind) → IfErr r (λ usage. usage.place ≡ at) → IfErr r (λ usage. RefusesSetting head settings at (named ∷ behind) usage.place usage.kind)
+name_refused (Ok a) head settings at word named behind word_is kind place = tt
+name_refused (Err usage) head settings at word named behind word_is kind place =
+    subst (λ (w : Word). RefusesSetting head settings at (w ∷ behind) usage.place usage.kind) word_is
+    (subst (λ (p : ℕ). RefusesSetting head settings at (word ∷ behind) p usage.kind) (sym place) (refused_name head settings at word behind usage.kind kind))
+
+pub value_refused : {A : Type 0} (r : Result A Usage) (head : Head) (settings : Settings) (at : ℕ) (word named : Word) (behind : List Word) (name : OptionName) → word ≡ named → NamesOption head settings word name → IfErr r (λ usage. RefusesValue (takes head name) behind usage.kind) → IfErr r (λ usage. usage.place ≡ at + 1) → IfErr r (λ usage. RefusesSetting head settings at (named ∷ behind) usage.place usage.kind)
+value_refused (Ok a) head settings at word named behind name word_is names kind place = tt
+value_refused (Err usage) head settings at word named behind name word_is names kind place =
+    subst (λ (w : Word). RefusesSetting head settings at (w ∷ behind) usage.place usage.kind) word_is
+    (subst (λ (p : ℕ). RefusesSetting head settings at (word ∷ behind) p usage.kind) (sym place) (refused_value head settings at word behind name usage.kind names kind))
 
 pub taken : (head : Head) (settings : Settings) (word : Word) (behind : List Word) (name : OptionName) (value : Value) (rest : List Word) → NamesOption head settings word name → TakesValue (takes head name) behind value rest → TakesSetting head settings (word ∷ behind) name value rest
 taken head settings word behind name value rest names takes_value given are keeps =
@@ -146,16 +150,6 @@ pub record Reading (head : Head) (files words : List Word) (settings : Settings)
   pub keeps : Keeps head settings given
   pub words_are : words ≡ flat_map setting_words given ++ rest
   pub place_is : place ≡ suc (length (words_before (DueOption head files given)))
-
-pub reading_begins : (head : Head) (files words : List Word) (settings : Settings) → length settings.values ≡ length every_option → ((name : OptionName) → kept_at settings name ≡ None) → Reading head files words settings (3 + length files) words
-reading_begins head files words settings count empty = record {
-  count = count;
-  given = [];
-  are_settings = tt;
-  keeps = empty;
-  words_are = refl;
-  place_is = omega (arith, ap (λ (ws : List Word). length ws) (append-nil (head_words head ++ files)), length-append (head_words head) files, two_words head);
-}
 
 -- its place is small, since each option stands at most once
 pub place_small : (head : Head) (files words : List Word) (settings : Settings) (place : ℕ) (rest : List Word) → AreFiles head files → Reading head files words settings place rest → place < 62
@@ -203,12 +197,6 @@ pub no_words : (words : Strings) → length words ≡ 0 → texts words ≡ []
 no_words [] e = refl
 no_words (word ∷ words) e = absurd (omega arith)
 
-pub reading_refused : (head : Head) (files words : List Word) (settings : Settings) (place : ℕ) (rest : List Word) (at : ℕ) (kind : UsageKind) → AreFiles head files → Reading head files words settings place rest → RefusesSetting head settings place rest at kind → Offending (head_words head ++ files ++ words) at kind
-reading_refused head files words settings place rest at kind are_files r refuses =
-    let front = head_words head ++ files in
-    let so_far = flat_map setting_words r.given in
-    subst (λ (ws : List Word). Offending ws at kind) (append_assoc front so_far rest ∙ ap (λ (ws : List Word). front ++ ws) (sym r.words_are)) (refuses files r.given are_files r.are_settings r.keeps r.place_is)
-
 -- at the end
 all_words : (words rest so_far : List Word) → words ≡ so_far ++ rest → rest ≡ [] → words ≡ so_far
 all_words words rest so_far e ended = e ∙ ap (λ (ws : List Word). so_far ++ ws) ended ∙ append-nil so_far
@@ -237,17 +225,4 @@ reading_ends head files words settings place rest r ended all = record {
   are_settings = r.are_settings;
   has_required = list_all-true (is_given r.given) (required head (is_given r.given)) (sym (required_kept head settings r.given r.keeps) ∙ all);
   keeps = r.keeps;
-}
-
--- what is made of what is kept is the plan of the words
-pub plan_read : (head : Head) (files words rest : List Word) (settings : Settings) (plan : Planned) → words ≡ head_words head ++ files ++ rest → AreFiles head files → ReadsSettings head rest settings → plan ≡ plan_of head files (kept_at settings) → PlanOf words plan
-plan_read head files words rest settings plan words_are are_files r plan_is = record {
-  head = head;
-  files = files;
-  settings = r.given;
-  words_are = words_are ∙ ap (λ (ws : List Word). head_words head ++ files ++ ws) r.words_are;
-  are_files = are_files;
-  are_settings = r.are_settings;
-  has_required = r.has_required;
-  plan_is = plan_is ∙ ap (plan_of head files) (kept_values head settings r.given r.keeps);
 }

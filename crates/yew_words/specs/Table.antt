@@ -1,5 +1,5 @@
 -- The words that the grammar knows, as the rows of two tables: the options, and the jobs.
-use Rattle.std.specs.Prelude.{ℕ, Bool, true, false, not, ◌&&◌, List, [], ◌∷◌, Option, find, position, unwrap_or, bytes_eq, codes, if◌then◌else◌}
+use Rattle.std.specs.Prelude.{ℕ, Bool, true, false, not, ◌&&◌, List, [], ◌∷◌, Option, find, bytes_eq, codes, if◌then◌else◌}
 use Rattle.std.specs.List.{list_any}
 use Rattle.yew_words.specs.declared.plan.Job.{Job}
 use Rattle.yew_words.specs.declared.plan.Job.TheVariants as jobs

@@ -183,17 +183,11 @@ fn read_option<'a>(
     ensures offence { IfErr result (λ usage.
         RefusesSetting head settings.now place (string_bytes word.now ∷ texts behind.now) usage.place usage.kind) }
 {
-    let name = match read_name(head, settings, word) {
-        Ok(name) => name,
-        Err(kind) => return Err(Usage { place, kind }),
-    };
-    match read_value(name.follows(head), behind) {
-        Ok((value, rest)) => Ok((name, value, rest)),
-        Err(kind) => Err(Usage {
-            place: place + 1,
-            kind,
-        }),
-    }
+    let name = read_name(head, settings, word).map_err(|kind| Usage { place, kind })?;
+    let place = place + 1;
+    let (value, rest) =
+        read_value(name.follows(head), behind).map_err(|kind| Usage { place, kind })?;
+    Ok((name, value, rest))
 }
 
 /// The option that the word names: one that is for the job and skeleton, and was not given before.
