@@ -164,9 +164,7 @@ fn read_options(head: Head, files: &[String], words: &[String]) -> Result<Settin
 fn has_required(head: Head, settings: &Settings) -> bool
     ensures { result ≡ list_all (is_kept settings.now) (required head (is_kept settings.now)) }
 {
-    head.required(settings)
-        .iter()
-        .all(|name| settings.is_given(*name))
+    settings.has_all(head.required(settings))
 }
 
 /// Reads an option, whose name is at this place, and its value; and gives the words behind them.

@@ -1,6 +1,7 @@
 //! The options that were given, each with its value.
 
 ghost use Rattle.std.specs.Prelude.{◌≡◌, None, Some, length, slice_set};
+ghost use Rattle.std.specs.List.{list_all, list_any};
 ghost use Rattle.yew_words.specs.Kept.{kept_at, index_of, is_kept};
 ghost use Rattle.yew_words.specs.Plans.{number_said, all_said};
 ghost use Rattle.yew_words.specs.declared.table.OptionName.{OptionName};
@@ -43,6 +44,20 @@ impl Settings {
         ensures { result ≡ is_kept self.now name }
     {
         self.get(name).is_some()
+    }
+
+    /// Whether one of these options was given.
+    pub fn has_any(&self, names: &[OptionName]) -> bool
+        ensures { result ≡ list_any (is_kept self.now) names.now }
+    {
+        names.iter().any(|name| self.is_given(*name))
+    }
+
+    /// Whether each of these options was given.
+    pub fn has_all(&self, names: &[OptionName]) -> bool
+        ensures { result ≡ list_all (is_kept self.now) names.now }
+    {
+        names.iter().all(|name| self.is_given(*name))
     }
 
     /// The number that was given.

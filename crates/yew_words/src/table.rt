@@ -234,7 +234,7 @@ impl OptionName {
         ensures { result ≡ is_for head (is_kept given.now) self }
     {
         let row = self.row(head);
-        row.suits && !row.excluded_by.iter().any(|other| given.is_given(*other))
+        row.suits && !given.has_any(row.excluded_by)
     }
 }
 
@@ -373,7 +373,7 @@ impl Head {
         ensures { result.now ≡ required self (is_kept given.now) }
     {
         let row = self.row();
-        if row.instead.iter().any(|other| given.is_given(*other)) {
+        if given.has_any(row.instead) {
             &[]
         } else {
             row.needs

@@ -1,6 +1,6 @@
 -- What is kept with a narrow option is narrow.
 use Rattle.std.proofs.Common.{sym, arith}
-use Rattle.yew_words.proofs.KeptOnes.{narrow_kept}
+use Rattle.yew_words.proofs.SettingsKept.{narrow_kept}
 use Rattle.yew_words.proofs.making.number.Goals as goal
 
 pub overflow_cast-result : goal.overflow_cast-result

@@ -2,7 +2,7 @@
 use Rattle.std.proofs.Common.{ap, sym, ◌∙◌, ◌∷◌, List}
 use Rattle.yew_words.specs.Word.{Word, texts}
 use Rattle.yew_words.specs.Table.{problem_word}
-use Rattle.yew_words.proofs.HeadWords.{first_and_rest, is_coordination, second_missing, second_unknown}
+use Rattle.yew_words.proofs.FirstWords.{first_and_rest, is_coordination, second_missing, second_unknown}
 use Rattle.yew_words.proofs.read.read_coordination.Goals as goal
 
 pub returns-in_default-clause-offence : goal.returns-in_default-clause-offence

@@ -2,7 +2,7 @@
 use Rattle.std.proofs.Common.{sym, ◌∙◌, ap, arith, ◌<◌}
 use Rattle.yew_words.specs.Word.{is_file_name}
 use Rattle.yew_words.specs.Table.{file_count}
-use Rattle.yew_words.proofs.Reading.{file_missing, file_refused}
+use Rattle.yew_words.proofs.OptionsRead.{file_missing, file_refused}
 use Rattle.yew_words.proofs.read.read_files.Goals as goal
 
 pub returns-in_default-clause-offence : goal.returns-in_default-clause-offence

@@ -4,7 +4,7 @@ use Rattle.std.specs.Prelude.{IfOk, IfErr}
 use Rattle.yew_words.specs.Word.{Word, texts}
 use Rattle.yew_words.specs.Table.{head_words, problem_word}
 use Rattle.yew_words.specs.Offences.{Offending}
-use Rattle.yew_words.proofs.HeadWords.{first_and_rest, is_problem}
+use Rattle.yew_words.proofs.FirstWords.{first_and_rest, is_problem}
 use Rattle.yew_words.proofs.read.read_head.Goals as goal
 
 pub returns-in-Some-named-clause-head : goal.returns-in-Some-named-clause-head

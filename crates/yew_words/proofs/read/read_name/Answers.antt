@@ -2,7 +2,7 @@
 use Rattle.std.proofs.Common.{sym}
 use Rattle.yew_words.specs.Table.{option_word}
 use Rattle.yew_words.specs.Table.{every_option}
-use Rattle.yew_words.proofs.Names.{named_is}
+use Rattle.yew_words.proofs.OneNameAWord.{named_is}
 use Rattle.yew_words.proofs.read.read_name.Goals as goal
 
 pub returns-then-not-is_for-clause-offence : goal.returns-then-not-is_for-clause-offence

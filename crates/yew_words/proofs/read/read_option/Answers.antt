@@ -5,7 +5,7 @@ use Rattle.yew_words.specs.declared.table.Takes.{Takes}
 use Rattle.yew_words.specs.Word.{Word, texts}
 use Rattle.yew_words.specs.Table.{takes}
 use Rattle.yew_words.specs.Kept.{NamesOption, RefusesName, TakesValue, RefusesValue, TakesSetting}
-use Rattle.yew_words.proofs.Reading.{name_refused, value_refused, taken}
+use Rattle.yew_words.proofs.OptionsRead.{name_refused, value_refused, taken}
 use Rattle.yew_words.proofs.read.read_option.Goals as goal
 
 -- where the error alone is mapped an answer is the one before
@@ -21,7 +21,8 @@ returns-in_err-name-clause-offence c =
 
 pub returns-in_err-value-clause-offence : goal.returns-in_err-value-clause-offence
 returns-in_err-value-clause-offence c =
-    let names : NamesOption c.args.head c.args.settings.now c.deref.result.now c.in_ok-name.name = search rules in
+    let names : NamesOption c.args.head c.args.settings.now c.deref.result.now c.in_ok-name.name =
+        ok_before c.read_name.result c.map_err.result c.in_ok-name.name (λ name. NamesOption c.args.head c.args.settings.now c.deref.result.now name) _ c.map_err.ensures.cases c.map_err.ensures.variant c.in_ok-name.was c.read_name.ensures.option in
     let kind : IfErr c.from_residual-in_err-value.result (λ usage. RefusesValue (takes c.args.head c.in_ok-name.name) (texts c.args.behind.now) usage.kind) = search rules in
     let place : IfErr c.from_residual-in_err-value.result (λ usage. usage.place ≡ c.args.place + 1) = search rules in
     value_refused c.from_residual-in_err-value.result c.args.head c.args.settings.now c.args.place c.deref.result.now _ (texts c.args.behind.now) c.in_ok-name.name c.deref.ensures names kind place

@@ -1,7 +1,7 @@
 -- The options, one a turn.
 use Rattle.std.proofs.Common.{arith, sym}
 use Rattle.yew_words.specs.Word.{texts}
-use Rattle.yew_words.proofs.Reading.{place_small, reading_step, reading_shrinks, no_words, reading_missing, reading_ends}
+use Rattle.yew_words.proofs.OptionsRead.{place_small, reading_step, reading_shrinks, no_words, reading_missing, reading_ends}
 use Rattle.yew_words.proofs.read.read_options.Goals as goal
 
 pub read_option-requires : goal.read_option-requires

@@ -1,6 +1,6 @@
 -- The parser refuses a number only where it is too large.
 use Rattle.std.proofs.Common.{sym}
-use Rattle.yew_words.proofs.Numbers.{past_every_range}
+use Rattle.yew_words.proofs.NumbersParsed.{past_every_range}
 use Rattle.yew_words.proofs.value.number.Goals as goal
 
 pub returns-in_default-clause-fault : goal.returns-in_default-clause-fault

@@ -3,7 +3,7 @@ use Rattle.std.proofs.Common.{rules, ◌≡◌, Some, sym}
 use Rattle.std.specs.Prelude.{IfErr}
 use Rattle.yew_words.specs.Word.{texts}
 use Rattle.yew_words.specs.Kept.{value_fault}
-use Rattle.yew_words.proofs.HeadWords.{first_and_rest, first_fault}
+use Rattle.yew_words.proofs.FirstWords.{first_and_rest, first_fault}
 use Rattle.yew_words.proofs.value.read_value.Goals as goal
 
 pub returns-in_err-value_of-clause-fault : goal.returns-in_err-value_of-clause-fault

@@ -17,7 +17,7 @@ use Rattle.yew_words.specs.Word.{Word, number_of}
 use Rattle.yew_words.specs.Table.{problem_row, file_count, job_of, takes, suits}
 use Rattle.yew_words.specs.Plans.{Planned, Setting, IsValue, value_said, setting_of, is_given, Values, values_of, number_said, number_or, AreSettings, HasRequired, skeleton_of, workers_of, PlanOf}
 use Rattle.yew_words.specs.Ranges.{coordination_of, head_of, IsFromTo, IsTaken, OneOf, HasRange, HasOptionalRange, HasSkeletonRange, HasSizeRange, file_count_of, HasSkeletonOf, IsWithin}
-use Rattle.yew_words.proofs.KeptOnes.{found}
+use Rattle.yew_words.proofs.SettingsKept.{found}
 
 -- ---- an option's number
 

@@ -17,11 +17,11 @@ use Rattle.yew_words.specs.Plans.{Planned, Setting, setting_words, IsValue, is_g
 use Rattle.yew_words.specs.Offences.{Due, DueJob, DueSkeleton, DueMade, DueFile, DueOption, DueValue, words_before, IsDue, IsBadValue, IsOffence, MayNotEnd, IsRefused, Offending}
 use Rattle.yew_words.specs.Table.{every_problem, every_coordination, every_made, every_option}
 use Rattle.yew_words.specs.Kept.{value_fault}
-use Rattle.yew_words.proofs.Judge.{due_files, after_problem, after_coordination, after_made, after_name, after_option, after_value, after, at_end, ended, judge_from, judge}
-use Rattle.yew_words.proofs.Names.{differs, named_problem, named_coordination, named_made, named_option, unnamed}
-use Rattle.yew_words.proofs.GivenOnes.{AreSettings-at}
-use Rattle.yew_words.proofs.Steps.{AreNames}
-use Rattle.yew_words.proofs.Sound.{list_all-true, all-list_all, judge_step, judge_stop, judge_end}
+use Rattle.yew_words.proofs.JudgingFunction.{due_files, after_problem, after_coordination, after_made, after_name, after_option, after_value, after, at_end, ended, judge_from, judge}
+use Rattle.yew_words.proofs.OneNameAWord.{differs, named_problem, named_coordination, named_made, named_option, unnamed}
+use Rattle.yew_words.proofs.SettingsInOrder.{AreSettings-at}
+use Rattle.yew_words.proofs.EachWordJudged.{AreNames}
+use Rattle.yew_words.proofs.JudgedRightly.{list_all-true, all-list_all, judge_step, judge_stop, judge_end}
 
 -- ---- an offending word is refused
 

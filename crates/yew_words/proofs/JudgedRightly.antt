@@ -11,8 +11,8 @@ use Rattle.yew_words.specs.declared.table.OptionName.{OptionName}
 use Rattle.yew_words.specs.Table.{required}
 use Rattle.yew_words.specs.Plans.{Planned, is_given, values_of, plan_of, PlanOf}
 use Rattle.yew_words.specs.Offences.{Due, DueJob, DueSkeleton, DueMade, DueFile, DueOption, DueValue, words_before, IsDue, MayNotEnd, Offending}
-use Rattle.yew_words.proofs.Judge.{Fault, after, at_end, ended, go_on, judge_from, judge}
-use Rattle.yew_words.proofs.Steps.{after_next, after_fault}
+use Rattle.yew_words.proofs.JudgingFunction.{Fault, after, at_end, ended, go_on, judge_from, judge}
+use Rattle.yew_words.proofs.EachWordJudged.{after_next, after_fault}
 
 -- what an answer says of the words
 abbrev pub Answers : List Word → Result Planned Fault → Type 0

@@ -11,10 +11,10 @@ use Rattle.yew_words.specs.Word.{Word, texts}
 use Rattle.yew_words.specs.Table.{problem_word, coordination_word}
 use Rattle.yew_words.specs.Offences.{DueSkeleton, Offending}
 use Rattle.yew_words.specs.Table.{named, every_problem, every_coordination}
-use Rattle.yew_words.proofs.Judge.{after_coordination}
-use Rattle.yew_words.proofs.Names.{named_is}
+use Rattle.yew_words.proofs.JudgingFunction.{after_coordination}
+use Rattle.yew_words.proofs.OneNameAWord.{named_is}
 use Rattle.yew_words.specs.Kept.{value_fault, RefusesValue}
-use Rattle.yew_words.proofs.Steps.{after_fault, fault_is}
+use Rattle.yew_words.proofs.EachWordJudged.{after_fault, fault_is}
 
 abbrev Strings : Type 0
 Strings = List (String Global)

@@ -7,11 +7,11 @@ use Rattle.yew_words.specs.declared.plan.Plan.{Plan}
 use Rattle.yew_words.specs.declared.plan.Usage.{Usage}
 use Rattle.yew_words.specs.Plans.{Planned, planned, PlanOf}
 use Rattle.yew_words.specs.Offences.{Offending}
-use Rattle.yew_words.proofs.Judge.{Fault, judge}
+use Rattle.yew_words.proofs.JudgingFunction.{Fault, judge}
 use Rattle.yew_words.specs.Laws.{HasOneAnswer}
-use Rattle.yew_words.proofs.Steps.{ok_is, err_is, ok_err, err_ok}
-use Rattle.yew_words.proofs.Sound.{Answers, judge_answers}
-use Rattle.yew_words.proofs.Whole.{plan_judged, offence_judged}
+use Rattle.yew_words.proofs.EachWordJudged.{ok_is, err_is, ok_err, err_ok}
+use Rattle.yew_words.proofs.JudgedRightly.{Answers, judge_answers}
+use Rattle.yew_words.proofs.JudgedWholly.{plan_judged, offence_judged}
 
 answered : (words : List Word) (r : Result Planned Fault) → judge words ≡ r → Answers words r → HasOneAnswer words
 answered words (Ok plan) e h = inl (record {

@@ -25,11 +25,11 @@ use Rattle.yew_words.specs.Table.{Given, head_words, file_count, option_word, ev
 use Rattle.yew_words.specs.Plans.{Planned, Setting, setting_words, value_said, is_given, AreSettings, AreFiles, plan_of, PlanOf}
 use Rattle.yew_words.specs.Offences.{DueFile, DueOption, DueValue, words_before, IsBadValue, IsOffence, IsRefused, Offending}
 use Rattle.yew_words.specs.Kept.{index_of, kept_at, is_kept, Keeps, NamesOption, RefusesName, TakesValue, RefusesValue, TakesSetting, RefusesSetting, ReadsSettings}
-use Rattle.yew_words.proofs.GivenOnes.{AreSettings-push}
-use Rattle.yew_words.proofs.Steps.{AreNames}
-use Rattle.yew_words.proofs.Sound.{list_all-true, all-list_all}
-use Rattle.yew_words.proofs.Whole.{two_words}
-use Rattle.yew_words.proofs.KeptOnes.{kept_given, Keeps-push, few_words}
+use Rattle.yew_words.proofs.SettingsInOrder.{AreSettings-push}
+use Rattle.yew_words.proofs.EachWordJudged.{AreNames}
+use Rattle.yew_words.proofs.JudgedRightly.{list_all-true, all-list_all}
+use Rattle.yew_words.proofs.JudgedWholly.{two_words}
+use Rattle.yew_words.proofs.SettingsKept.{kept_given, Keeps-push, few_words}
 
 -- ---- the files' names
 

@@ -21,8 +21,8 @@ use Rattle.yew_words.specs.Table.{option_row, option_word, takes, suits}
 use Rattle.yew_words.specs.Plans.{Setting, setting_words, IsValue, value_said, is_named, setting_of, is_given, values_of, number_said, AreBehind, AreSettings}
 use Rattle.yew_words.specs.Table.{every_option}
 use Rattle.yew_words.specs.Kept.{index_of, kept_at, is_kept, Keeps, AreKept, IsNarrow}
-use Rattle.yew_words.proofs.Names.{same_word, own_word, other_word, same_name}
-use Rattle.yew_words.proofs.GivenOnes.{first_differs, rest_differs, is_given-own, later_new}
+use Rattle.yew_words.proofs.OneNameAWord.{same_word, own_word, other_word, same_name}
+use Rattle.yew_words.proofs.SettingsInOrder.{first_differs, rest_differs, is_given-own, later_new}
 
 some_is : {A : Type 0} (x y : A) → Some x ≡ Some y → x ≡ y
 some_is x y e = cc

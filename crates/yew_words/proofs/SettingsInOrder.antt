@@ -7,7 +7,7 @@ use Rattle.yew_words.specs.declared.table.Head.{Head}
 use Rattle.yew_words.specs.declared.table.OptionName.{OptionName}
 use Rattle.yew_words.specs.Table.{option_word}
 use Rattle.yew_words.specs.Plans.{Setting, is_named, is_given, MayFollow, AreBehind, AreSettings}
-use Rattle.yew_words.proofs.Names.{same_word, own_word, same_name}
+use Rattle.yew_words.proofs.OneNameAWord.{same_word, own_word, same_name}
 
 -- ---- what is given
 

@@ -21,9 +21,9 @@ use Rattle.yew_words.specs.Plans.{Setting, setting_words, IsValue, is_given}
 use Rattle.yew_words.specs.Offences.{Due, DueJob, DueSkeleton, DueMade, DueFile, DueOption, DueValue, words_before, IsDue, IsBadValue, IsOffence}
 use Rattle.yew_words.specs.Table.{named, every_problem, every_coordination, every_made, every_option}
 use Rattle.yew_words.specs.Kept.{value_fault}
-use Rattle.yew_words.proofs.Judge.{due_files, after_problem, after_coordination, after_made, after_name, after_option, after_value, after}
-use Rattle.yew_words.proofs.Names.{same_word, other_word, named_is, named_none, named_problem, named_coordination, named_made, named_option}
-use Rattle.yew_words.proofs.GivenOnes.{AreSettings-push}
+use Rattle.yew_words.proofs.JudgingFunction.{due_files, after_problem, after_coordination, after_made, after_name, after_option, after_value, after}
+use Rattle.yew_words.proofs.OneNameAWord.{same_word, other_word, named_is, named_none, named_problem, named_coordination, named_made, named_option}
+use Rattle.yew_words.proofs.SettingsInOrder.{AreSettings-push}
 
 pub ok_is : {A E : Type 0} (x y : A) → ◌≡◌ {A = Result A E} (Ok x) (Ok y) → x ≡ y
 ok_is x y e = cc
