@@ -24,7 +24,8 @@ answered words (Err fault) e h = inr (record {
   place = fault.place;
   kind = fault.kind;
   is_offence = h;
-  only_place = λ place kind o. ap (λ (f : Fault). f.place) (err_is (record { place = place; kind = kind }) fault (sym (offence_judged words place kind o) ∙ e));
+  only_place = λ place kind o. ap (λ (f : Fault). f.place) (err_is (record { place = place; kind = kind }) fault
+      (sym (offence_judged words place kind o) ∙ e));
   only_kind = λ place kind o. ap (λ (f : Fault). f.kind) (err_is (record { place = place; kind = kind }) fault (sym (offence_judged words place kind o) ∙ e));
   no_plan = λ plan p. ok_err plan fault (sym (plan_judged words plan p) ∙ e);
 })
@@ -34,10 +35,22 @@ one_answer words = answered words (judge words) refl (judge_answers words)
 
 -- ---- a reader that answers a plan of the words or their first offence answers each one that there is
 
-pub each_plan : (words : List Word) (result : Result Plan Usage) → IfOk result (λ plan. PlanOf words (planned plan)) → IfErr result (λ usage. Offending words usage.place usage.kind) → (plan : Planned) → PlanOf words plan → IsOkAnd result (λ answered. planned answered ≡ plan)
-each_plan words (Ok answered) is_plan is_offence plan p = ok_is (planned answered) plan (sym (plan_judged words (planned answered) is_plan) ∙ plan_judged words plan p)
-each_plan words (Err usage) is_plan is_offence plan p = absurd (ok_err plan (record { place = usage.place; kind = usage.kind }) (sym (plan_judged words plan p) ∙ offence_judged words usage.place usage.kind is_offence))
+pub each_plan : (words : List Word) (result : Result Plan Usage) → IfOk result (λ plan. PlanOf words (planned plan))
+    → IfErr result (λ usage. Offending words usage.place usage.kind) → (plan : Planned) → PlanOf words plan
+    → IsOkAnd result (λ answered. planned answered ≡ plan)
+each_plan words (Ok answered) is_plan is_offence plan p = ok_is (planned answered) plan
+    (sym (plan_judged words (planned answered) is_plan) ∙ plan_judged words plan p)
+each_plan words (Err usage) is_plan is_offence plan p = absurd
+    (ok_err plan (record { place = usage.place; kind = usage.kind })
+    (sym (plan_judged words plan p) ∙ offence_judged words usage.place usage.kind is_offence))
 
-pub each_offence : (words : List Word) (result : Result Plan Usage) → IfOk result (λ plan. PlanOf words (planned plan)) → IfErr result (λ usage. Offending words usage.place usage.kind) → (place : ℕ) (kind : UsageKind) → Offending words place kind → result ≡ Err (record { place = place; kind = kind })
-each_offence words (Ok answered) is_plan is_offence place kind o = absurd (ok_err (planned answered) (record { place = place; kind = kind }) (sym (plan_judged words (planned answered) is_plan) ∙ offence_judged words place kind o))
-each_offence words (Err usage) is_plan is_offence place kind o = ap (λ (f : Fault). Err (record { place = f.place; kind = f.kind })) (err_is (record { place = usage.place; kind = usage.kind }) (record { place = place; kind = kind }) (sym (offence_judged words usage.place usage.kind is_offence) ∙ offence_judged words place kind o))
+pub each_offence : (words : List Word) (result : Result Plan Usage) → IfOk result (λ plan. PlanOf words (planned plan))
+    → IfErr result (λ usage. Offending words usage.place usage.kind) → (place : ℕ) (kind : UsageKind) → Offending words place kind
+    → result ≡ Err (record { place = place; kind = kind })
+each_offence words (Ok answered) is_plan is_offence place kind o =
+    absurd (ok_err (planned answered) (record { place = place; kind = kind })
+    (sym (plan_judged words (planned answered) is_plan) ∙ offence_judged words place kind o))
+each_offence words (Err usage) is_plan is_offence place kind o =
+    ap (λ (f : Fault). Err (record { place = f.place; kind = f.kind }))
+    (err_is (record { place = usage.place; kind = usage.kind }) (record { place = place; kind = kind })
+    (sym (offence_judged words usage.place usage.kind is_offence) ∙ offence_judged words place kind o))

@@ -33,12 +33,14 @@ pub named_is : {A : Type 0} (word_of : A → Word) (xs : List A) (w : Word) (a :
 named_is word_of [] w a e = absurd (none-some a e)
 named_is word_of (x ∷ xs) w a e =
     elim (cases_Bool (bytes_eq (word_of x) w)) [
-      | inl h ↦ let k : x ≡ a = let f = subst (λ (b : Bool). cond b (Some x) (named word_of xs w) ≡ Some a) h e in cc in sym (same_word (word_of x) w h) ∙ ap word_of k
+      | inl h ↦ let k : x ≡ a = let f = subst (λ (b : Bool). cond b (Some x) (named word_of xs w) ≡ Some a) h e in cc in sym (same_word (word_of x) w h)
+          ∙ ap word_of k
       | inr h ↦ named_is word_of xs w a (subst (λ (b : Bool). cond b (Some x) (named word_of xs w) ≡ Some a) h e)
     ]
 
 -- a word that names none of them is the word of none that has a name
-pub named_none : {A : Type 0} (word_of : A → Word) (xs : List A) (w : Word) (a : A) → named word_of xs (word_of a) ≡ Some a → named word_of xs w ≡ None → w ≢ word_of a
+pub named_none : {A : Type 0} (word_of : A → Word) (xs : List A) (w : Word) (a : A) → named word_of xs (word_of a) ≡ Some a → named word_of xs w ≡ None
+    → w ≢ word_of a
 named_none word_of xs w a own e h = none-some a (sym e ∙ ap (named word_of xs) h ∙ own)
 
 pub named_problem : (p : Problem) → named problem_word every_problem (problem_word p) ≡ Some p
@@ -62,7 +64,8 @@ pub same_name : (a b : OptionName) → option_word a ≡ option_word b → a ≡
 same_name a b e = let f : Some a ≡ Some b = sym (named_option a) ∙ ap (λ (w : Word). named option_word every_option w) e ∙ named_option b in cc
 
 -- where no name is found the word is the word of none of them
-pub unnamed : {A : Type 0} (word_of : A → Word) (xs : List A) (w : Word) → ((a : A) → named word_of xs (word_of a) ≡ Some a) → ((a : A) → w ≢ word_of a) → named word_of xs w ≡ None
+pub unnamed : {A : Type 0} (word_of : A → Word) (xs : List A) (w : Word) → ((a : A) → named word_of xs (word_of a) ≡ Some a) → ((a : A) → w ≢ word_of a)
+    → named word_of xs w ≡ None
 unnamed {A = A} word_of xs w own h = none_of (named word_of xs w) (λ a e. h a (named_is word_of xs w a e))
   where
     none_of : (o : Option A) → ((a : A) → o ≢ Some a) → o ≡ None

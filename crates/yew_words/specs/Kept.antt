@@ -1,5 +1,6 @@
 -- How a reader keeps the options that were given: a place for each, with its value.
-use Rattle.std.specs.Prelude.{◌≡◌, ◌≢◌, ℕ, suc, ◌<◌, ◌^◌, Bool, List, [], ◌∷◌, ◌++◌, length, flat_map, Option, Some, None, IsTrue, IsFalse, is_some, unwrap_or, position, slice_index_or, bytes_eq, codes, nat_le, ◌&&◌, if◌then◌else◌}
+use Rattle.std.specs.Prelude.{◌≡◌, ◌≢◌, ℕ, suc, ◌<◌, ◌^◌, Bool, List, [], ◌∷◌, ◌++◌, length, flat_map, Option, Some, None, IsTrue, IsFalse, is_some}
+use Rattle.std.specs.Prelude.{unwrap_or, position, slice_index_or, bytes_eq, codes, nat_le, ◌&&◌, if◌then◌else◌}
 use Rattle.std.specs.Option.{option_to_list}
 use Rattle.yew_words.specs.declared.plan.UsageKind.{UsageKind}
 use Rattle.yew_words.specs.declared.plan.UsageKind.TheVariants.{Missing, Unknown, Repeated, NotNumber, OutOfRange, NotHere}
@@ -18,7 +19,8 @@ use Rattle.yew_words.specs.Offences.{DueOption, words_before, IsBadValue, Offend
 abbrev pub value_fault : Takes → Word → Option UsageKind
 value_fault takings.Nothing word = None
 value_fault takings.OneOrAll word = if bytes_eq (codes "one") word then None else (if bytes_eq (codes "all") word then None else Some Unknown)
-value_fault (takings.Number low high) word = if is_number word then (if nat_le low (number_of word) && nat_le (number_of word) high then None else Some OutOfRange) else Some NotNumber
+value_fault (takings.Number low high) word = if is_number word then
+    (if nat_le low (number_of word) && nat_le (number_of word) high then None else Some OutOfRange) else Some NotNumber
 
 -- the place of an option: where the table has its word
 abbrev pub index_of : OptionName → ℕ
@@ -57,7 +59,8 @@ pub record NamesOption (head : Head) (settings : Settings) (word : Word) (name :
 abbrev pub RefusesName : Head → Settings → Word → UsageKind → Type 0
 RefusesName head settings word Unknown = (name : OptionName) → word ≢ option_word name
 RefusesName head settings word NotHere = (name : OptionName) × (word ≡ option_word name) × IsFalse (is_for head (is_kept settings) name)
-RefusesName head settings word Repeated = (name : OptionName) × (word ≡ option_word name) × IsTrue (is_for head (is_kept settings) name) × IsTrue (is_kept settings name)
+RefusesName head settings word Repeated = (name : OptionName) × (word ≡ option_word name) × IsTrue (is_for head (is_kept settings) name)
+    × IsTrue (is_kept settings name)
 RefusesName head settings word _ = ⊥
 
 -- The words begin with the value that is due, or nothing is due.
@@ -83,11 +86,13 @@ pub record GoesOn (head : Head) (given : List Setting) (words : List Word) (name
 
 -- The words begin with an option that may stand behind those that are kept.
 abbrev pub TakesSetting : Head → Settings → List Word → OptionName → Value → List Word → Type 0
-TakesSetting head settings words name value rest = (given : List Setting) → AreSettings head given → Keeps head settings given → GoesOn head given words name value rest
+TakesSetting head settings words name value rest = (given : List Setting) → AreSettings head given → Keeps head settings given
+    → GoesOn head given words name value rest
 
 -- The words, the first of them at the place `at`, begin with an option that may not stand behind those that are kept.
 abbrev pub RefusesSetting : Head → Settings → ℕ → List Word → ℕ → UsageKind → Type 0
-RefusesSetting head settings at words place kind = (files : List Word) (given : List Setting) → AreFiles head files → AreSettings head given → Keeps head settings given
+RefusesSetting head settings at words place kind = (files : List Word) (given : List Setting) → AreFiles head files → AreSettings head given
+    → Keeps head settings given
     → at ≡ suc (length (words_before (DueOption head files given))) → Offending (words_before (DueOption head files given) ++ words) place kind
 
 -- The words are options in order, none that is required is absent, and they are what is kept.

@@ -183,8 +183,10 @@ fn read_option<'a>(
 {
     let name = read_name(head, settings, word).map_err(|kind| Usage { place, kind })?;
     let place = place + 1;
-    let (value, rest) =
-        read_value(name.follows(head), behind).map_err(|kind| Usage { place, kind })?;
+    let (value, rest) = read_value(name.follows(head), behind).map_err(|kind| Usage {
+        place,
+        kind,
+    })?;
     Ok((name, value, rest))
 }
 

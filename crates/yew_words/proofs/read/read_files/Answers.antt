@@ -13,4 +13,5 @@ returns-in_default-clause-offence c =
 pub returns-then-not-is_file_name-clause-offence : goal.returns-then-not-is_file_name-clause-offence
 returns-then-not-is_file_name-clause-offence c =
     let few : c.loop-index.index < file_count c.args.head = omega (arith, c.row-count.ensures.files) in
-    file_refused c.args.head c.args.words.now c.loop-index.index c.in-Some.word.now c.loop-index.invariant.names c.in-Some.ensures.lookup.3.0 (sym c.in-Some.ensures.lookup.1) few (ap is_file_name (sym c.deref.ensures) ∙ sym c.if-not-is_file_name.ensures)
+    file_refused c.args.head c.args.words.now c.loop-index.index c.in-Some.word.now c.loop-index.invariant.names c.in-Some.ensures.lookup.3.0
+    (sym c.in-Some.ensures.lookup.1) few (ap is_file_name (sym c.deref.ensures) ∙ sym c.if-not-is_file_name.ensures)
