@@ -23,9 +23,9 @@ use Rattle.yew_words.specs.declared.value.Value.{Value}
 use Rattle.yew_words.specs.declared.settings.Settings.{Settings}
 use Rattle.yew_words.specs.Word.{Word, texts, is_file_name}
 use Rattle.yew_words.specs.Table.{Given, head_words, file_count, option_word, every_option, takes, is_for, required}
-use Rattle.yew_words.specs.Plans.{Planned, Setting, setting_words, value_said, is_given, AreSettings, AreFiles, plan_of, PlanOf}
+use Rattle.yew_words.specs.Plans.{Setting, setting_words, value_said, is_given, AreSettings, AreFiles}
 use Rattle.yew_words.specs.Offences.{DueFile, DueOption, DueValue, words_before, IsBadValue, IsOffence, IsRefused, Offending}
-use Rattle.yew_words.specs.Kept.{index_of, kept_at, is_kept, Keeps, NamesOption, RefusesName, TakesValue, RefusesValue, TakesSetting, RefusesSetting}
+use Rattle.yew_words.specs.Kept.{index_of, is_kept, Keeps, NamesOption, RefusesName, TakesValue, RefusesValue, TakesSetting, RefusesSetting}
 use Rattle.yew_words.specs.Kept.{ReadsSettings}
 use Rattle.yew_words.proofs.SettingsInOrder.{AreSettings-push}
 use Rattle.yew_words.proofs.EachWordJudged.{AreNames}
