@@ -39,7 +39,8 @@ IsDue (DueSkeleton problem) = Unit {0}
 IsDue DueMade = Unit {0}
 IsDue (DueFile head files) = (length files < file_count head) × AllByRecursion (λ word. IsTrue (is_file_name word)) files
 IsDue (DueOption head files given) = AreFiles head files × AreSettings head given
-IsDue (DueValue head files given name) = AreFiles head files × AreSettings head given × IsTrue (is_for head name) × IsFalse (is_given given name) × (takes head name ≢ Nothing)
+IsDue (DueValue head files given name) = AreFiles head files × AreSettings head given × IsTrue (is_for head (is_given given) name)
+    × IsFalse (is_given given name) × (takes head name ≢ Nothing)
 
 -- a word that is not what is due, and the kind of its fault
 abbrev pub IsBadValue : Takes → Word → UsageKind → Type 0
@@ -54,8 +55,9 @@ IsOffence (DueSkeleton problem) word Unknown = (coordination : Coordination) →
 IsOffence DueMade word Unknown = (kind : Made) → word ≢ made_word kind
 IsOffence (DueFile head files) word NotFile = IsFalse (is_file_name word)
 IsOffence (DueOption head files given) word Unknown = (name : OptionName) → word ≢ option_word name
-IsOffence (DueOption head files given) word NotHere = (name : OptionName) × (word ≡ option_word name) × IsFalse (is_for head name)
-IsOffence (DueOption head files given) word Repeated = (name : OptionName) × (word ≡ option_word name) × IsTrue (is_for head name) × IsTrue (is_given given name)
+IsOffence (DueOption head files given) word NotHere = (name : OptionName) × (word ≡ option_word name) × IsFalse (is_for head (is_given given) name)
+IsOffence (DueOption head files given) word Repeated = (name : OptionName) × (word ≡ option_word name) × IsTrue (is_for head (is_given given) name)
+    × IsTrue (is_given given name)
 IsOffence (DueValue head files given name) word kind = IsBadValue (takes head name) word kind
 IsOffence _ word _ = ⊥
 

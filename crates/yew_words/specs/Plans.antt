@@ -1,9 +1,9 @@
 -- Which words have which plan.
-use Rattle.std.specs.Prelude.{◌≡◌, ℕ, ◌≤◌, Bool, ◌⊎◌, List, [], ◌∷◌, ◌++◌, length, flat_map, Option, Some, None, IsTrue, IsFalse, is_some, unwrap_or, option_map, option_and_then, codes, bytes_eq, if◌then◌else◌}
+use Rattle.std.specs.Prelude.{◌≡◌, ℕ, ◌≤◌, Bool, ◌⊎◌, List, [], ◌∷◌, ◌++◌, length, flat_map, Option, Some, None, IsTrue, IsFalse, false, is_some, unwrap_or}
+use Rattle.std.specs.Prelude.{option_map, codes, bytes_eq, if◌then◌else◌}
 use Rattle.std.specs.List.{AllByRecursion}
 use Rattle.std.specs.Option.{option_to_list}
 use Rattle.yew_words.specs.declared.plan.Job.{Job}
-use Rattle.yew_words.specs.declared.plan.Job.TheVariants as jobs
 use Rattle.yew_words.specs.declared.plan.Plan.{Plan}
 use Rattle.yew_words.specs.declared.plan.Skeleton.{Skeleton}
 use Rattle.yew_words.specs.declared.plan.Skeleton.TheVariants as skeletons
@@ -11,12 +11,13 @@ use Rattle.yew_words.specs.Word.{Word, texts, is_file_name, is_number, number_of
 use Rattle.yew_words.specs.declared.table.Head.{Head}
 use Rattle.yew_words.specs.declared.table.OptionName.{OptionName}
 use Rattle.yew_words.specs.declared.table.Takes.{Takes}
-use Rattle.yew_words.specs.declared.table.Problem.TheVariants as problems
 use Rattle.yew_words.specs.declared.table.Coordination.TheVariants as coordinations
 use Rattle.yew_words.specs.declared.table.OptionName.TheVariants as options
 use Rattle.yew_words.specs.declared.table.Head.TheVariants.{Search, Make}
 use Rattle.yew_words.specs.declared.table.Takes.TheVariants.{Nothing, OneOrAll, Number}
-use Rattle.yew_words.specs.Table.{head_words, file_count, option_word, takes, is_for, required}
+use Rattle.yew_words.specs.declared.value.Value.{Value}
+use Rattle.yew_words.specs.declared.value.Value.TheVariants as values
+use Rattle.yew_words.specs.Table.{head_words, file_count, job_of, option_word, takes, suits, is_for, required}
 
 -- a plan, without where its files' names lie in memory
 pub record Planned : Type 0 where
@@ -55,7 +56,7 @@ pub record Setting : Type 0 where
 abbrev pub setting_words : Setting → List Word
 setting_words s = option_word s.name ∷ option_to_list s.value
 
--- the value that stands behind a name
+-- the word that stands behind a name
 abbrev pub IsValue : Takes → Option Word → Type 0
 IsValue Nothing None = Unit {0}
 IsValue Nothing (Some word) = ⊥
@@ -63,6 +64,12 @@ IsValue OneOrAll None = ⊥
 IsValue OneOrAll (Some word) = (word ≡ codes "one") ⊎ (word ≡ codes "all")
 IsValue (Number low high) None = ⊥
 IsValue (Number low high) (Some word) = IsTrue (is_number word) × (low ≤ number_of word) × (number_of word ≤ high)
+
+-- the value that it says
+abbrev pub value_said : Takes → Option Word → Value
+value_said OneOrAll (Some word) = values.OneOrAll (bytes_eq word (codes "all"))
+value_said (Number low high) (Some word) = values.Number (number_of word)
+value_said _ _ = values.Nothing
 
 -- two names are one where their words are
 abbrev pub is_named : OptionName → Setting → Bool
@@ -76,17 +83,42 @@ setting_of name (s ∷ given) = if is_named name s then Some s else setting_of n
 abbrev pub is_given : List Setting → OptionName → Bool
 is_given given name = is_some (setting_of name given)
 
--- the word and the number behind an option's name
-abbrev pub value_of : List Setting → OptionName → Option Word
-value_of given name = option_and_then (λ s. s.value) (setting_of name given)
+-- the values of the options, each where it was given
+abbrev pub Values : Type 0
+Values = OptionName → Option Value
 
-abbrev pub number_at : List Setting → OptionName → Option ℕ
-number_at given name = option_map number_of (value_of given name)
+abbrev pub values_of : Head → List Setting → Values
+values_of head given name = option_map (λ s. value_said (takes head s.name) s.value) (setting_of name given)
 
--- each option is for these first words, has its value, and is given once
+abbrev pub has_value : Values → OptionName → Bool
+has_value said name = is_some (said name)
+
+-- the number that was given with an option
+abbrev pub number_said : Option Value → Option ℕ
+number_said (Some (values.Number number)) = Some number
+number_said _ = None
+
+abbrev pub number_or : Values → OptionName → ℕ → ℕ
+number_or said name absent = unwrap_or (number_said (said name)) absent
+
+-- whether it was the word `all`
+abbrev pub all_said : Option Value → Bool
+all_said (Some (values.OneOrAll all)) = all
+all_said _ = false
+
+-- A setting behind these is for the first words, has its value, and was not given before.
+pub record MayFollow (head : Head) (before : List Setting) (s : Setting) : Type 0 where
+  pub is_for_head : IsTrue (is_for head (is_given before) s.name)
+  pub is_value : IsValue (takes head s.name) s.value
+  pub is_new : IsFalse (is_given before s.name)
+
+-- each setting may stand behind those before it
+abbrev pub AreBehind : Head → List Setting → List Setting → Type 0
+AreBehind head before [] = Unit {0}
+AreBehind head before (s ∷ given) = MayFollow head before s × AreBehind head (before ++ s ∷ []) given
+
 abbrev pub AreSettings : Head → List Setting → Type 0
-AreSettings head [] = Unit {0}
-AreSettings head (s ∷ given) = IsTrue (is_for head s.name) × IsValue (takes head s.name) s.value × IsFalse (is_given given s.name) × AreSettings head given
+AreSettings head given = AreBehind head [] given
 
 -- the files' names, as many as the job has
 pub record AreFiles (head : Head) (files : List Word) : Type 0 where
@@ -95,44 +127,35 @@ pub record AreFiles (head : Head) (files : List Word) : Type 0 where
 
 -- no option that is required is absent
 abbrev pub HasRequired : Head → List Setting → Type 0
-HasRequired head given = AllByRecursion (λ name. IsTrue (is_given given name)) (required head)
-
-abbrev pub job_of : Head → Job
-job_of (Search problems.Knapsack coordination) = jobs.Knapsack
-job_of (Search problems.Tsp coordination) = jobs.Tsp
-job_of (Search problems.Subgraph coordination) = jobs.Subgraph
-job_of (Search problems.Semigroups coordination) = jobs.Semigroups
-job_of (Make kind) = jobs.Make kind
+HasRequired head given = AllByRecursion (λ name. IsTrue (is_given given name)) (required head (is_given given))
 
 -- the skeleton with its number: a depth that is absent is 2, a budget 1000, a chunk `one`
-abbrev pub skeleton_of : Head → List Setting → Skeleton
-skeleton_of (Search problem coordinations.Sequential) given = skeletons.Sequential
-skeleton_of (Search problem coordinations.Depth) given = skeletons.Depth (unwrap_or (number_at given options.Depth) 2)
-skeleton_of (Search problem coordinations.Budget) given = skeletons.Budget (unwrap_or (number_at given options.Budget) 1000)
-skeleton_of (Search problem coordinations.Steal) given = skeletons.Steal (bytes_eq (unwrap_or (value_of given options.Chunk) (codes "one")) (codes "all"))
-skeleton_of (Search problem coordinations.Ordered) given = skeletons.Ordered (unwrap_or (number_at given options.Depth) 2)
-skeleton_of (Make kind) given = skeletons.Sequential
+abbrev pub skeleton_of : Head → Values → Skeleton
+skeleton_of (Search problem coordinations.Sequential) said = skeletons.Sequential
+skeleton_of (Search problem coordinations.Depth) said = skeletons.Depth (number_or said options.Depth 2)
+skeleton_of (Search problem coordinations.Budget) said = skeletons.Budget (number_or said options.Budget 1000)
+skeleton_of (Search problem coordinations.Steal) said = skeletons.Steal (all_said (said options.Chunk))
+skeleton_of (Search problem coordinations.Ordered) said = skeletons.Ordered (number_or said options.Depth 2)
+skeleton_of (Make kind) said = skeletons.Sequential
 
 -- the number of workers: 4 where it is absent, and 1 where the words do not concern it
-abbrev pub workers_of : Head → List Setting → ℕ
-workers_of (Search problem coordinations.Sequential) given = 1
-workers_of (Search problem _) given = unwrap_or (number_at given options.Workers) 4
-workers_of (Make kind) given = 1
+abbrev pub workers_of : Head → Values → ℕ
+workers_of head said = if suits head options.Workers then number_or said options.Workers 4 else 1
 
--- the plan of first words, files and settings. A field that none of them concerns is empty, None, 0 or false
-abbrev pub plan_of : Head → List Word → List Setting → Planned
-plan_of head files given = record {
+-- the plan of first words, files and values. A field that none of them concerns is empty, None, 0 or false
+abbrev pub plan_of : Head → List Word → Values → Planned
+plan_of head files said = record {
   job = job_of head;
-  skeleton = skeleton_of head given;
+  skeleton = skeleton_of head said;
   files = files;
-  workers = workers_of head given;
-  target = number_at given options.Target;
-  genus = unwrap_or (number_at given options.Genus) 0;
-  audit = is_given given options.Audit;
-  report = is_given given options.Report;
-  seed = unwrap_or (number_at given options.Seed) 0;
-  size = unwrap_or (number_at given options.Size) 0;
-  solve = is_given given options.Solve;
+  workers = workers_of head said;
+  target = number_said (said options.Target);
+  genus = number_or said options.Genus 0;
+  audit = has_value said options.Audit;
+  report = has_value said options.Report;
+  seed = number_or said options.Seed 0;
+  size = number_or said options.Size 0;
+  solve = has_value said options.Solve;
 }
 
 -- The words are the first two, the files' names, and options in any order, each at most once; and this is their plan.
@@ -144,4 +167,4 @@ pub record PlanOf (words : List Word) (plan : Planned) : Type 0 where
   pub are_files : AreFiles head files
   pub are_settings : AreSettings head settings
   pub has_required : HasRequired head settings
-  pub plan_is : plan ≡ plan_of head files settings
+  pub plan_is : plan ≡ plan_of head files (values_of head settings)

@@ -1,53 +1,84 @@
--- The ranges of a plan's numbers, by its job and skeleton.
-use Rattle.std.specs.Prelude.{◌≡◌, ℕ, ◌≤◌, length, Option, None, IfSome}
+-- The ranges of a plan's fields: those of the options that they come from, by the table.
+use Rattle.std.specs.Prelude.{◌≡◌, ℕ, zero, suc, ◌≤◌, Bool, true, false, length, Option, None, IfSome}
 use Rattle.yew_words.specs.declared.plan.Job.{Job}
 use Rattle.yew_words.specs.declared.plan.Job.TheVariants as jobs
-use Rattle.yew_words.specs.declared.plan.Made.TheVariants as made
 use Rattle.yew_words.specs.declared.plan.Skeleton.{Skeleton}
 use Rattle.yew_words.specs.declared.plan.Skeleton.TheVariants as skeletons
+use Rattle.yew_words.specs.declared.table.Problem.TheVariants as problems
+use Rattle.yew_words.specs.declared.table.Coordination.{Coordination}
+use Rattle.yew_words.specs.declared.table.Coordination.TheVariants as coordinations
+use Rattle.yew_words.specs.declared.table.Head.{Head}
+use Rattle.yew_words.specs.declared.table.Head.TheVariants.{Search, Make}
+use Rattle.yew_words.specs.declared.table.OptionName.{OptionName}
+use Rattle.yew_words.specs.declared.table.OptionName.TheVariants as options
+use Rattle.yew_words.specs.declared.table.Takes.{Takes}
+use Rattle.yew_words.specs.declared.table.Takes.TheVariants.{Nothing, OneOrAll, Number}
+use Rattle.yew_words.specs.Table.{takes, suits, file_count}
 use Rattle.yew_words.specs.Plans.{Planned}
 
--- the number is in this range, both ends included
+-- ---- the first words of a job and a skeleton
+
+abbrev pub coordination_of : Skeleton → Coordination
+coordination_of skeletons.Sequential = coordinations.Sequential
+coordination_of (skeletons.Depth depth) = coordinations.Depth
+coordination_of (skeletons.Budget budget) = coordinations.Budget
+coordination_of (skeletons.Steal all) = coordinations.Steal
+coordination_of (skeletons.Ordered depth) = coordinations.Ordered
+
+abbrev pub head_of : Job → Coordination → Head
+head_of jobs.Knapsack coordination = Search problems.Knapsack coordination
+head_of jobs.Tsp coordination = Search problems.Tsp coordination
+head_of jobs.Subgraph coordination = Search problems.Subgraph coordination
+head_of jobs.Semigroups coordination = Search problems.Semigroups coordination
+head_of (jobs.Make kind) coordination = Make kind
+
+-- ---- a field that comes from an option
+
+-- the number is in this range, both ends included; none is below 0
 abbrev pub IsFromTo : ℕ → ℕ → ℕ → Type 0
-IsFromTo low high n = (low ≤ n) × (n ≤ high)
+IsFromTo zero high n = n ≤ high
+IsFromTo (suc low) high n = (suc low ≤ n) × (n ≤ high)
+
+-- the number is one that may follow
+abbrev pub IsTaken : Takes → ℕ → Type 0
+IsTaken (Number low high) n = IsFromTo low high n
+IsTaken OneOrAll n = ⊥
+IsTaken Nothing n = ⊥
+
+-- the first where the test holds, and else the second
+abbrev pub OneOf : Bool → Type 0 → Type 0 → Type 0
+OneOf true First Second = First
+OneOf false First Second = Second
+
+-- a number: one that may follow the option where it is for these first words, and else this one
+abbrev pub HasRange : Head → OptionName → ℕ → ℕ → Type 0
+HasRange head name absent n = OneOf (suits head name) (IsTaken (takes head name) n) (n ≡ absent)
+
+-- a number that may be absent
+abbrev pub HasOptionalRange : Head → OptionName → Option ℕ → Type 0
+HasOptionalRange head name given = OneOf (suits head name) (IfSome given (IsTaken (takes head name))) (given ≡ None)
 
 -- the number of a skeleton
-abbrev pub HasSkeletonRange : Skeleton → Type 0
-HasSkeletonRange skeletons.Sequential = Unit {0}
-HasSkeletonRange (skeletons.Depth depth) = IsFromTo 1 255 depth
-HasSkeletonRange (skeletons.Budget budget) = IsFromTo 1 4294967295 budget
-HasSkeletonRange (skeletons.Steal all) = Unit {0}
-HasSkeletonRange (skeletons.Ordered depth) = IsFromTo 1 255 depth
+abbrev pub HasSkeletonRange : Head → Skeleton → Type 0
+HasSkeletonRange head skeletons.Sequential = Unit {0}
+HasSkeletonRange head (skeletons.Depth depth) = HasRange head options.Depth 0 depth
+HasSkeletonRange head (skeletons.Budget budget) = HasRange head options.Budget 0 budget
+HasSkeletonRange head (skeletons.Steal all) = Unit {0}
+HasSkeletonRange head (skeletons.Ordered depth) = HasRange head options.Depth 0 depth
 
--- the number of workers: one for a sequential search
-abbrev pub HasWorkersRange : Skeleton → ℕ → Type 0
-HasWorkersRange skeletons.Sequential workers = workers ≡ 1
-HasWorkersRange _ workers = IsFromTo 1 64 workers
-
--- the target: of a knapsack alone
-abbrev pub HasTargetRange : Job → Option ℕ → Type 0
-HasTargetRange jobs.Knapsack target = IfSome target (λ t. t ≤ 1099511627774)
-HasTargetRange _ target = target ≡ None
-
--- the genus: of semigroups alone
-abbrev pub HasGenusRange : Job → ℕ → Type 0
-HasGenusRange jobs.Semigroups genus = genus ≤ 40
-HasGenusRange _ genus = genus ≡ 0
+-- ---- the fields
 
 -- the size of what is made
 abbrev pub HasSizeRange : Job → ℕ → Type 0
-HasSizeRange (jobs.Make made.Knapsack) size = IsFromTo 1 256 size
-HasSizeRange (jobs.Make made.Tsp) size = IsFromTo 2 60 size
-HasSizeRange (jobs.Make made.Lad) size = size ≤ 1024
-HasSizeRange _ size = size ≡ 0
+HasSizeRange job size = HasRange (head_of job coordinations.Sequential) options.Size 0 size
 
 -- how many files a job has
 abbrev pub file_count_of : Job → ℕ
-file_count_of jobs.Knapsack = 1
-file_count_of jobs.Tsp = 1
-file_count_of jobs.Subgraph = 2
-file_count_of jobs.Semigroups = 0
-file_count_of (jobs.Make kind) = 0
+file_count_of job = file_count (head_of job coordinations.Sequential)
+
+-- the first words of a plan
+abbrev pub head_of_plan : Planned → Head
+head_of_plan plan = head_of plan.job (coordination_of plan.skeleton)
 
 -- what is made is made by no skeleton
 abbrev pub HasSkeletonOf : Job → Skeleton → Type 0
@@ -57,9 +88,9 @@ HasSkeletonOf _ skeleton = Unit {0}
 -- Each field is in its range.
 pub record IsWithin (plan : Planned) : Type 0 where
   pub of_job : HasSkeletonOf plan.job plan.skeleton
-  pub skeleton : HasSkeletonRange plan.skeleton
-  pub workers : HasWorkersRange plan.skeleton plan.workers
-  pub target : HasTargetRange plan.job plan.target
-  pub genus : HasGenusRange plan.job plan.genus
+  pub skeleton : HasSkeletonRange (head_of_plan plan) plan.skeleton
+  pub workers : HasRange (head_of_plan plan) options.Workers 1 plan.workers
+  pub target : HasOptionalRange (head_of_plan plan) options.Target plan.target
+  pub genus : HasRange (head_of_plan plan) options.Genus 0 plan.genus
   pub size : HasSizeRange plan.job plan.size
   pub files : length plan.files ≡ file_count_of plan.job

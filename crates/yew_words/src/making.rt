@@ -1,23 +1,22 @@
 //! The plan of words that are in order.
 
-ghost use Rattle.std.specs.Prelude.{◌≡◌, List, unwrap_or};
+ghost use Rattle.std.specs.Prelude.{◌≡◌, unwrap_or};
 ghost use Rattle.yew_words.specs.Word.{texts};
 ghost use Rattle.yew_words.specs.Table.{takes};
-ghost use Rattle.yew_words.specs.Plans.{planned, plan_of, job_of, skeleton_of, workers_of, Setting, AreSettings};
-ghost use Rattle.yew_words.specs.Kept.{kept_at, kept_number, Keeps, AreKept, IsNarrow};
+ghost use Rattle.yew_words.specs.Plans.{planned, plan_of, skeleton_of, workers_of, number_said, number_or};
+ghost use Rattle.yew_words.specs.Kept.{kept_at, AreKept, IsNarrow};
 
-use crate::plan::{Job, Plan, Skeleton};
+use crate::plan::{Plan, Skeleton};
 use crate::settings::Settings;
-use crate::table::{Coordination, Head, OptionName, Problem};
+use crate::table::{Coordination, Head, OptionName};
 
 /// The plan of the first two words, the files' names and the options.
 pub fn make_plan<'a>(head: Head, files: &'a [String], settings: &Settings) -> Plan<'a>
     requires { AreKept head settings.now }
-    ensures { (given : List Setting) → AreSettings head given → Keeps head settings.now given →
-        planned result ≡ plan_of head (texts files.now) given }
+    ensures { planned result ≡ plan_of head (texts files.now) (kept_at settings.now) }
 {
     Plan {
-        job: job(head),
+        job: head.row().job,
         skeleton: skeleton(head, settings),
         files,
         workers: workers(head, settings),
@@ -31,23 +30,10 @@ pub fn make_plan<'a>(head: Head, files: &'a [String], settings: &Settings) -> Pl
     }
 }
 
-fn job(head: Head) -> Job
-    ensures { result ≡ job_of head }
-{
-    match head {
-        Head::Search(Problem::Knapsack, _) => Job::Knapsack,
-        Head::Search(Problem::Tsp, _) => Job::Tsp,
-        Head::Search(Problem::Subgraph, _) => Job::Subgraph,
-        Head::Search(Problem::Semigroups, _) => Job::Semigroups,
-        Head::Make(made) => Job::Make(made),
-    }
-}
-
 /// The skeleton with its number.
 fn skeleton(head: Head, settings: &Settings) -> Skeleton
     requires { AreKept head settings.now }
-    ensures { (given : List Setting) → AreSettings head given → Keeps head settings.now given →
-        result ≡ skeleton_of head given }
+    ensures { result ≡ skeleton_of head (kept_at settings.now) }
 {
     match head {
         Head::Search(_, coordination) => match coordination {
@@ -70,15 +56,12 @@ fn skeleton(head: Head, settings: &Settings) -> Skeleton
 /// The number of workers.
 fn workers(head: Head, settings: &Settings) -> u32
     requires { AreKept head settings.now }
-    ensures { (given : List Setting) → AreSettings head given → Keeps head settings.now given →
-        result ≡ workers_of head given }
+    ensures { result ≡ workers_of head (kept_at settings.now) }
 {
-    match head {
-        Head::Search(_, coordination) => match coordination {
-            Coordination::Sequential => 1,
-            _ => number(head, settings, OptionName::Workers, 4),
-        },
-        Head::Make(_) => 1,
+    if OptionName::Workers.suits(head) {
+        number(head, settings, OptionName::Workers, 4)
+    } else {
+        1
     }
 }
 
@@ -86,7 +69,7 @@ fn workers(head: Head, settings: &Settings) -> u32
 fn number(head: Head, settings: &Settings, name: OptionName, absent: u32) -> u32
     requires kept { AreKept head settings.now }
     requires narrow { IsNarrow (takes head name) }
-    ensures { result ≡ unwrap_or (kept_number (kept_at settings.now name)) absent }
+    ensures { result ≡ number_or (kept_at settings.now) name absent }
 {
     match settings.number(name) {
         Some(number) => number as u32,

@@ -1,6 +1,6 @@
 //! The reader: it judges the words from left to right, each once.
 
-ghost use Rattle.std.specs.Prelude.{◌≡◌, ℕ, ◌<◌, List, ◌∷◌, ◌++◌, IfOk, IfErr, IsOkAnd, Err, is_some, codes, string_bytes};
+ghost use Rattle.std.specs.Prelude.{◌≡◌, ℕ, ◌<◌, List, ◌∷◌, ◌++◌, IfOk, IfErr, IsOkAnd, Err, codes, string_bytes};
 ghost use Rattle.std.specs.List.{list_all};
 ghost use Rattle.yew_words.specs.declared.plan.UsageKind.{UsageKind};
 ghost use Rattle.yew_words.specs.Word.{texts};
@@ -8,7 +8,7 @@ ghost use Rattle.yew_words.specs.Table.{problem_word, head_words, required};
 ghost use Rattle.yew_words.specs.Plans.{Planned, planned, PlanOf, AreFiles};
 ghost use Rattle.yew_words.specs.Ranges.{IsWithin};
 ghost use Rattle.yew_words.specs.Offences.{Offending};
-ghost use Rattle.yew_words.specs.Kept.{kept_at, NamesOption, RefusesName, TakesSetting, RefusesSetting, ReadsSettings};
+ghost use Rattle.yew_words.specs.Kept.{is_kept, NamesOption, RefusesName, TakesSetting, RefusesSetting, ReadsSettings};
 
 use crate::making::make_plan;
 use crate::plan::{Plan, Usage, UsageKind};
@@ -116,7 +116,7 @@ fn read_files<'a>(head: Head, words: &'a [String]) -> Result<(&'a [String], &'a 
     ensures offence { IfErr result (λ usage.
         Offending (head_words head ++ texts words.now) usage.place usage.kind) }
 {
-    let count = head.file_count();
+    let count = head.row().files;
     for index in 0..count {
         let place = 3 + index as u32;
         let Some(word) = words.get(index) else {
@@ -162,9 +162,9 @@ fn read_options(head: Head, files: &[String], words: &[String]) -> Result<Settin
 
 /// Whether no required option is absent.
 fn has_required(head: Head, settings: &Settings) -> bool
-    ensures { result ≡ list_all (λ name. is_some (kept_at settings.now name)) (required head) }
+    ensures { result ≡ list_all (is_kept settings.now) (required head (is_kept settings.now)) }
 {
-    head.required().iter().all(|name| settings.is_given(*name))
+    settings.has_all(head.required(settings))
 }
 
 /// Reads an option, whose name is at this place, and its value; and gives the words behind them.
@@ -181,17 +181,13 @@ fn read_option<'a>(
     ensures offence { IfErr result (λ usage.
         RefusesSetting head settings.now place (string_bytes word.now ∷ texts behind.now) usage.place usage.kind) }
 {
-    let name = match read_name(head, settings, word) {
-        Ok(name) => name,
-        Err(kind) => return Err(Usage { place, kind }),
-    };
-    match read_value(name.takes(head), behind) {
-        Ok((value, rest)) => Ok((name, value, rest)),
-        Err(kind) => Err(Usage {
-            place: place + 1,
-            kind,
-        }),
-    }
+    let name = read_name(head, settings, word).map_err(|kind| Usage { place, kind })?;
+    let place = place + 1;
+    let (value, rest) = read_value(name.follows(head), behind).map_err(|kind| Usage {
+        place,
+        kind,
+    })?;
+    Ok((name, value, rest))
 }
 
 /// The option that the word names: one that is for the job and skeleton, and was not given before.
@@ -199,10 +195,10 @@ fn read_name(head: Head, settings: &Settings, word: &str) -> Result<OptionName, 
     ensures option { IfOk result (NamesOption head settings.now word.now) }
     ensures offence { IfErr result (RefusesName head settings.now word.now) }
 {
-    let Some(name) = OptionName::named(word) else {
+    let Some(name) = OptionName::named(word, head) else {
         return Err(UsageKind::Unknown);
     };
-    if !name.is_for(head) {
+    if !name.is_for(head, settings) {
         return Err(UsageKind::NotHere);
     }
     if settings.is_given(name) {

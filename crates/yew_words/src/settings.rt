@@ -1,7 +1,9 @@
 //! The options that were given, each with its value.
 
-ghost use Rattle.std.specs.Prelude.{◌≡◌, None, Some, length, is_some, slice_set};
-ghost use Rattle.yew_words.specs.Kept.{kept_at, index_of, kept_number, kept_all};
+ghost use Rattle.std.specs.Prelude.{◌≡◌, None, Some, length, slice_set};
+ghost use Rattle.std.specs.List.{list_all, list_any};
+ghost use Rattle.yew_words.specs.Kept.{kept_at, index_of, is_kept};
+ghost use Rattle.yew_words.specs.Plans.{number_said, all_said};
 ghost use Rattle.yew_words.specs.declared.table.OptionName.{OptionName};
 
 use crate::table::{OPTION_COUNT, OptionName};
@@ -39,14 +41,28 @@ impl Settings {
 
     /// Whether the option was given.
     pub fn is_given(&self, name: OptionName) -> bool
-        ensures { result ≡ is_some (kept_at self.now name) }
+        ensures { result ≡ is_kept self.now name }
     {
         self.get(name).is_some()
     }
 
+    /// Whether one of these options was given.
+    pub fn has_any(&self, names: &[OptionName]) -> bool
+        ensures { result ≡ list_any (is_kept self.now) names.now }
+    {
+        names.iter().any(|name| self.is_given(*name))
+    }
+
+    /// Whether each of these options was given.
+    pub fn has_all(&self, names: &[OptionName]) -> bool
+        ensures { result ≡ list_all (is_kept self.now) names.now }
+    {
+        names.iter().all(|name| self.is_given(*name))
+    }
+
     /// The number that was given.
     pub fn number(&self, name: OptionName) -> Option<u64>
-        ensures { result ≡ kept_number (kept_at self.now name) }
+        ensures { result ≡ number_said (kept_at self.now name) }
     {
         match self.get(name) {
             Some(Value::Number(number)) => Some(number),
@@ -56,7 +72,7 @@ impl Settings {
 
     /// Whether the word `all` was given.
     pub fn is_all(&self, name: OptionName) -> bool
-        ensures { result ≡ kept_all (kept_at self.now name) }
+        ensures { result ≡ all_said (kept_at self.now name) }
     {
         match self.get(name) {
             Some(Value::OneOrAll { all }) => all,

@@ -1,5 +1,7 @@
 //! Lines of words with their plans and their faults, read off the tables of options, and short lists by what any answer keeps.
 
+mod pairs;
+
 use super::*;
 use std::alloc::{AllocError, Global};
 use std::process::Abort;

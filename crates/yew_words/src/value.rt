@@ -5,8 +5,8 @@ ghost use Rattle.std.specs.List.{list_all};
 ghost use Rattle.std.specs.Char.{is_ascii_digit};
 ghost use Rattle.yew_words.specs.Word.{texts, is_file_name, is_number, number_of};
 ghost use Rattle.yew_words.specs.declared.table.Takes.TheVariants as takings;
-ghost use Rattle.yew_words.specs.Kept.{value_fault};
-ghost use Rattle.yew_words.specs.Kept.{kept_as, TakesValue, RefusesValue};
+ghost use Rattle.yew_words.specs.Kept.{value_fault, TakesValue, RefusesValue};
+ghost use Rattle.yew_words.specs.Plans.{value_said};
 
 use crate::plan::UsageKind;
 use crate::table::Takes;
@@ -79,7 +79,7 @@ fn number(word: &str, low: u64, high: u64) -> Result<u64, UsageKind>
 /// The kind of fault where it says none.
 fn value_of(takes: Takes, word: &str) -> Result<Value, UsageKind>
     ensures value { IfOk result (λ value.
-        (value_fault takes word.now ≡ None) × (value ≡ kept_as takes (Some word.now))) }
+        (value_fault takes word.now ≡ None) × (value ≡ value_said takes (Some word.now))) }
     ensures fault { IfErr result (λ kind. value_fault takes word.now ≡ Some kind) }
 {
     match takes {
@@ -108,8 +108,5 @@ pub fn read_value<'a>(takes: Takes, words: &'a [String]) -> Result<(Value, &'a [
     let Some((word, rest)) = words.split_first() else {
         return Err(UsageKind::Missing);
     };
-    match value_of(takes, word) {
-        Ok(value) => Ok((value, rest)),
-        Err(kind) => Err(kind),
-    }
+    Ok((value_of(takes, word)?, rest))
 }

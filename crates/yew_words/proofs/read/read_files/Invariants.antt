@@ -1,7 +1,7 @@
 -- the words so far are files' names
 use Rattle.std.proofs.Common.{◌≤◌, take, length}
 use Rattle.yew_words.specs.Word.{texts}
-use Rattle.yew_words.proofs.Steps.{AreNames}
+use Rattle.yew_words.proofs.EachWordJudged.{AreNames}
 use Rattle.yew_words.proofs.read.read_files.Given as goal
 
 abbrev pub invariant-loop-index : goal.invariant-loop-index

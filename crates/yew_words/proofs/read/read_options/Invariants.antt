@@ -1,7 +1,7 @@
 -- The options so far are kept, and each turn takes one word at least.
 use Rattle.std.proofs.Common.{length}
 use Rattle.yew_words.specs.Word.{texts}
-use Rattle.yew_words.proofs.Reading.{Reading}
+use Rattle.yew_words.proofs.OptionsRead.{Reading}
 use Rattle.yew_words.proofs.read.read_options.Given as goal
 
 abbrev pub invariant-loop-word : goal.invariant-loop-word

@@ -4,8 +4,8 @@ use Rattle.std.specs.Prelude.{IfOk, IfErr}
 use Rattle.yew_words.specs.Word.{texts}
 use Rattle.yew_words.specs.Plans.{planned, PlanOf}
 use Rattle.yew_words.specs.Offences.{Offending}
-use Rattle.yew_words.proofs.PlanRanges.{plan_within}
-use Rattle.yew_words.proofs.Answer.{each_plan, each_offence}
+use Rattle.yew_words.proofs.PlansInRange.{plan_within}
+use Rattle.yew_words.proofs.OneAnswer.{each_plan, each_offence}
 use Rattle.yew_words.proofs.read.read_words.Goals as goal
 
 pub returns-in_err-head-clause-each_plan : goal.returns-in_err-head-clause-each_plan

@@ -12,9 +12,10 @@ use Rattle.yew_words.specs.declared.table.OptionName.{OptionName}
 use Rattle.yew_words.specs.declared.table.Takes.{Takes}
 use Rattle.yew_words.specs.declared.table.Head.TheVariants.{Search, Make}
 use Rattle.yew_words.specs.declared.table.Takes.TheVariants.{Nothing, OneOrAll, Number}
-use Rattle.yew_words.specs.Table.{problem_word, coordination_word, made_word, file_count, option_word, takes, is_for, required, named, every_problem, every_coordination, every_made, every_option}
+use Rattle.yew_words.specs.Table.{problem_word, coordination_word, made_word, file_count, option_word, takes, is_for, required, named, every_problem}
+use Rattle.yew_words.specs.Table.{every_coordination, every_made, every_option}
 use Rattle.yew_words.specs.Kept.{value_fault}
-use Rattle.yew_words.specs.Plans.{Planned, Setting, is_given, plan_of}
+use Rattle.yew_words.specs.Plans.{Planned, Setting, is_given, values_of, plan_of}
 use Rattle.yew_words.specs.Offences.{Due, DueJob, DueSkeleton, DueMade, DueFile, DueOption, DueValue}
 
 -- what is due behind so many files
@@ -40,7 +41,8 @@ after_name head files given name (Number low high) = DueValue head files given n
 
 abbrev pub after_option : Head → List Word → List Setting → Option OptionName → Result Due UsageKind
 after_option head files given None = Err Unknown
-after_option head files given (Some name) = if is_for head name then (if is_given given name then Err Repeated else Ok (after_name head files given name (takes head name))) else Err NotHere
+after_option head files given (Some name) = if is_for head (is_given given) name then
+    (if is_given given name then Err Repeated else Ok (after_name head files given name (takes head name))) else Err NotHere
 
 abbrev pub after_value : Head → List Word → List Setting → OptionName → Word → Option UsageKind → Result Due UsageKind
 after_value head files given name word None = Ok (DueOption head files (given ++ record { name = name; value = Some word } ∷ []))
@@ -57,7 +59,8 @@ after (DueValue head files given name) word = after_value head files given name 
 
 -- the plan where the words end here, or what is missing
 abbrev pub at_end : Due → Result Planned UsageKind
-at_end (DueOption head files given) = if list_all (is_given given) (required head) then Ok (plan_of head files given) else Err Missing
+at_end (DueOption head files given) = if list_all (is_given given) (required head (is_given given)) then Ok
+    (plan_of head files (values_of head given)) else Err Missing
 at_end _ = Err Missing
 
 -- the first offending word: its place and its kind

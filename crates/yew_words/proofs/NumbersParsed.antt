@@ -25,12 +25,15 @@ is_some_word [] h = absurd (let e : false ≡ true = h in cc)
 is_some_word (c ∷ cs) h = omega arith
 
 -- The word's number, unless 64 bits are too few.
-pub number_parsed : {E : Type 0} (word : Word) (r : Result ℕ E) → ParsesUnsigned 64 10 word r → IsTrue (is_number word) → OkIff r ((0 < length word) × (number_of word < 2 ^ 64)) (number_of word)
+pub number_parsed : {E : Type 0} (word : Word) (r : Result ℕ E) → ParsesUnsigned 64 10 word r → IsTrue (is_number word)
+    → OkIff r ((0 < length word) × (number_of word < 2 ^ 64)) (number_of word)
 number_parsed word r h number = parse_digits numerals 64 word r h (are_digits word number)
 
 -- A number that 64 bits cannot hold is outside each range that they can.
-pub past_every_range : {E : Type 0} (word : Word) (low high : ℕ) (e : E) → ParsesUnsigned 64 10 word (Err e) → IsTrue (is_number word) → high < 2 ^ 64 → value_fault (Number low high) word ≡ Some OutOfRange
+pub past_every_range : {E : Type 0} (word : Word) (low high : ℕ) (e : E) → ParsesUnsigned 64 10 word (Err e) → IsTrue (is_number word) → high < 2 ^ 64
+    → value_fault (Number low high) word ≡ Some OutOfRange
 past_every_range word low high e h number within =
     let some = is_some_word word number in
-    let past : high < number_of word = elim (cases_lt high (number_of word)) [ inl lt ↦ lt | inr le ↦ absurd (number_parsed word (Err e) h number (some, omega arith)) ] in
+    let past : high < number_of word = elim (cases_lt high (number_of word))
+    [ inl lt ↦ lt | inr le ↦ absurd (number_parsed word (Err e) h number (some, omega arith)) ] in
     rw (number, and_right (nat_le low (number_of word)) (nat_le (number_of word) high) (lt-leb (number_of word) high past)) refl

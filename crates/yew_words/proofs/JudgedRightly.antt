@@ -1,5 +1,6 @@
 -- What the function on the words answers is a plan, or the first offence.
-use Rattle.std.proofs.Common.{◌≡◌, ℕ, suc, Bool, true, cond, List, [], ◌∷◌, ◌++◌, length, Result, Ok, Err, refl, sym, ap, subst, ◌∙◌, append_assoc, arith, inl, inr}
+use Rattle.std.proofs.Common.{◌≡◌, ℕ, suc, Bool, true, cond, List, [], ◌∷◌, ◌++◌, length, Result, Ok, Err, refl, sym, ap, subst, ◌∙◌, append_assoc, arith}
+use Rattle.std.proofs.Common.{inl, inr}
 use Rattle.std.specs.Prelude.{IsTrue}
 use Rattle.std.specs.List.{AllByRecursion, list_all}
 use Rattle.std.proofs.lemmas.Bool.{cases_Bool, both_ways, and_parts, and_from}
@@ -9,10 +10,10 @@ use Rattle.yew_words.specs.declared.plan.UsageKind.TheVariants.{Missing}
 use Rattle.yew_words.specs.Word.{Word}
 use Rattle.yew_words.specs.declared.table.OptionName.{OptionName}
 use Rattle.yew_words.specs.Table.{required}
-use Rattle.yew_words.specs.Plans.{Planned, is_given, plan_of, PlanOf}
+use Rattle.yew_words.specs.Plans.{Planned, is_given, values_of, plan_of, PlanOf}
 use Rattle.yew_words.specs.Offences.{Due, DueJob, DueSkeleton, DueMade, DueFile, DueOption, DueValue, words_before, IsDue, MayNotEnd, Offending}
-use Rattle.yew_words.proofs.Judge.{Fault, after, at_end, ended, go_on, judge_from, judge}
-use Rattle.yew_words.proofs.Steps.{after_next, after_fault}
+use Rattle.yew_words.proofs.JudgingFunction.{Fault, after, at_end, ended, go_on, judge_from, judge}
+use Rattle.yew_words.proofs.EachWordJudged.{after_next, after_fault}
 
 -- what an answer says of the words
 abbrev pub Answers : List Word → Result Planned Fault → Type 0
@@ -41,17 +42,30 @@ ends (DueValue head files ss name) d = missing (DueValue head files ss name) d t
 ends (DueOption head files ss) d =
     let words = words_before (DueOption head files ss) in
     let place = suc (length words) in
-    let P : Bool → Type 0 = λ b. Answers words (ended place (cond b (Ok (plan_of head files ss)) (Err Missing))) in
-    elim (cases_Bool (list_all (is_given ss) (required head))) [
-      | inl all ↦ subst P (sym all) (record { head = head; files = files; settings = ss; words_are = refl; are_files = d.0; are_settings = d.1; has_required = list_all-true (is_given ss) (required head) all; plan_is = refl })
-      | inr not_all ↦ subst P (sym not_all) (missing (DueOption head files ss) d (λ has. both_ways (list_all (is_given ss) (required head)) not_all (all-list_all (is_given ss) (required head) has)))
+    let P : Bool → Type 0 = λ b. Answers words (ended place (cond b (Ok (plan_of head files (values_of head ss))) (Err Missing))) in
+    elim (cases_Bool (list_all (is_given ss) (required head (is_given ss)))) [
+      | inl all ↦ subst P (sym all) (record {
+        head = head;
+        files = files;
+        settings = ss;
+        words_are = refl;
+        are_files = d.0;
+        are_settings = d.1;
+        has_required =
+            list_all-true (is_given ss) (required head (is_given ss)) all;
+        plan_is = refl;
+      })
+      | inr not_all ↦ subst P (sym not_all) (missing (DueOption head files ss) d
+          (λ has. both_ways (list_all (is_given ss) (required head (is_given ss))) not_all (all-list_all (is_given ss) (required head (is_given ss)) has)))
     ]
 
-pub judge_step : (due : Due) (place : ℕ) (word : Word) (words : List Word) (next : Due) → after due word ≡ Ok next → judge_from due place (word ∷ words) ≡ judge_from next (suc place) words
+pub judge_step : (due : Due) (place : ℕ) (word : Word) (words : List Word) (next : Due) → after due word ≡ Ok next
+    → judge_from due place (word ∷ words) ≡ judge_from next (suc place) words
 unfolding judge_from
 judge_step due place word words next e = ap (λ r. go_on place r (λ next. judge_from next (suc place) words)) e
 
-pub judge_stop : (due : Due) (place : ℕ) (word : Word) (words : List Word) (kind : UsageKind) → after due word ≡ Err kind → judge_from due place (word ∷ words) ≡ Err (record { place = place; kind = kind })
+pub judge_stop : (due : Due) (place : ℕ) (word : Word) (words : List Word) (kind : UsageKind) → after due word ≡ Err kind
+    → judge_from due place (word ∷ words) ≡ Err (record { place = place; kind = kind })
 unfolding judge_from
 judge_stop due place word words kind e = ap (λ r. go_on place r (λ next. judge_from next (suc place) words)) e
 
@@ -68,14 +82,17 @@ From words due = Answers (words_before due ++ words) (judge_from due (suc (lengt
 step_ok : (due : Due) (word : Word) (words : List Word) (next : Due) → IsDue due → after due word ≡ Ok next → From words next → From (word ∷ words) due
 step_ok due word words next d e h =
     let f = after_next due word next d e in
-    let words_are : words_before next ++ words ≡ words_before due ++ word ∷ words = ap (λ (ws : List Word). ws ++ words) f.1 ∙ append_assoc (words_before due) (word ∷ []) words in
+    let words_are : words_before next ++ words ≡ words_before due ++ word ∷ words = ap (λ (ws : List Word). ws ++ words) f.1
+    ∙ append_assoc (words_before due) (word ∷ []) words in
     let place_is : suc (length (words_before next)) ≡ suc (suc (length (words_before due))) = longer (words_before due) (words_before next) word f.1 in
     rw (judge_step due (suc (length (words_before due))) word words next e, ← place_is, ← words_are) h
 
 step_err : (due : Due) (word : Word) (words : List Word) (kind : UsageKind) → IsDue due → after due word ≡ Err kind → From (word ∷ words) due
-step_err due word words kind d e = rw (judge_stop due (suc (length (words_before due))) word words kind e) (record { due = due; rest = word ∷ words; is_due = d; words_are = refl; place_is = refl; is_refused = after_fault due word kind e })
+step_err due word words kind d e = rw (judge_stop due (suc (length (words_before due))) word words kind e)
+    (record { due = due; rest = word ∷ words; is_due = d; words_are = refl; place_is = refl; is_refused = after_fault due word kind e })
 
-step : (due : Due) (word : Word) (words : List Word) → IsDue due → ((next : Due) → IsDue next → From words next) → (r : Result Due UsageKind) → after due word ≡ r → From (word ∷ words) due
+step : (due : Due) (word : Word) (words : List Word) → IsDue due → ((next : Due) → IsDue next → From words next) → (r : Result Due UsageKind)
+    → after due word ≡ r → From (word ∷ words) due
 step due word words d rest (Ok next) e = step_ok due word words next d e (rest next (after_next due word next d e).0)
 step due word words d rest (Err kind) e = step_err due word words kind d e
 
