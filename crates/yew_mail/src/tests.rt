@@ -15,13 +15,13 @@ use yew_laws::{Memory, Path, Problem, Task};
 
 /// The number 0, and so many numbers from 1 on as its children.
 #[derive(Clone, Copy)]
-struct Star {
-    leaves: u32,
+pub struct Star {
+    pub leaves: u32,
 }
 
 /// So many numbers from one on.
 #[derive(Clone, Copy)]
-struct Numbers {
+pub struct Numbers {
     next: u32,
     count: u32,
 }
@@ -84,7 +84,7 @@ impl Problem for Star {
 }
 
 /// The task of a child of the root.
-fn leaf(alloc: Global, star: &Star, number: u32) -> Result<Task<Star>, Memory>
+pub fn leaf(alloc: Global, star: &Star, number: u32) -> Result<Task<Star>, Memory>
     requires { (number < star.now.leaves) × (star.now.leaves < 4294967295) }
     ensures { IfOk result (λ task. (task.path.numbers ≡ number ∷ []) × (task.node ≡ number + 1)) }
 {
@@ -96,7 +96,7 @@ fn leaf(alloc: Global, star: &Star, number: u32) -> Result<Task<Star>, Memory>
 }
 
 /// One task as a gift.
-fn gift<P: Problem>(alloc: Global, problem: &P, task: Task<P>) -> Result<Vec<Task<P>>, Memory>
+pub fn gift<P: Problem>(alloc: Global, problem: &P, task: Task<P>) -> Result<Vec<Task<P>>, Memory>
     requires { is_task P.Problem problem.now task }
     ensures { IfOk result (λ tasks. (0 < length tasks.items) × AllByRecursion (is_task P.Problem problem.now) tasks.items) }
 {
