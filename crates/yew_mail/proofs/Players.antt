@@ -23,7 +23,8 @@ module _ {X : Type 0} where
   pub one_more : (before after : List X) (x : X) (n : ℕ) → after ≡ before ++ x ∷ [] → length before ≡ n → length after ≡ n + 1
   one_more before after x n is count = let a = ap (λ (l : List X). length l) is in let b = length-append before (x ∷ []) in omega (arith, a, b, count)
 
-  pub one_moved : {Y : Type 0} (all rest : List X) (x : X) (before after : List Y) (y : Y) (n : ℕ) → all ≡ rest ++ x ∷ [] → after ≡ before ++ y ∷ [] → length before + length all ≡ n → length after + length rest ≡ n
+  pub one_moved : {Y : Type 0} (all rest : List X) (x : X) (before after : List Y) (y : Y) (n : ℕ) → all ≡ rest ++ x ∷ [] → after ≡ before ++ y ∷ []
+      → length before + length all ≡ n → length after + length rest ≡ n
   one_moved {Y} all rest x before after y n off on count =
       let a = ap (λ (l : List X). length l) off in let b = length-append rest (x ∷ []) in
       let d = ap (λ (l : List Y). length l) on in let e = length-append before (y ∷ []) in omega (arith, a, b, d, e, count)
@@ -45,7 +46,8 @@ module _ {X : Type 0} where
   rest_left all rest after x is e = e ∙ ap (λ (l : List X). remove l 0) is
 
 module _ {T Q : Type 0} where
-  pub new_is_seat : (mail : MailId) (problem : Q) (number : ℕ) (seat : SeatView T Q) → seat ≡ new_seat mail problem number → 0 < number → number ≤ mail.workers → IsSeatOf mail problem number None seat
+  pub new_is_seat : (mail : MailId) (problem : Q) (number : ℕ) (seat : SeatView T Q) → seat ≡ new_seat mail problem number → 0 < number
+      → number ≤ mail.workers → IsSeatOf mail problem number None seat
   new_is_seat mail problem number seat is above within = subst (IsSeatOf mail problem number None) (sym is) record {
     same_mail = refl;
     share = refl;
@@ -57,18 +59,22 @@ module _ {T Q : Type 0} where
   }
 
   -- seats with a share of 1 have together as much as they are
-  whole_of : (mail : MailId) (seats : List (SeatView T Q)) → AllByRecursion (λ (s : SeatView T Q). (s.mail ≡ mail) × (s.share ≡ 1)) seats → sum_by (λ (s : SeatView T Q). s.share) seats ≡ length seats
+  whole_of : (mail : MailId) (seats : List (SeatView T Q)) → AllByRecursion (λ (s : SeatView T Q). (s.mail ≡ mail) × (s.share ≡ 1)) seats
+      → sum_by (λ (s : SeatView T Q). s.share) seats ≡ length seats
   whole_of mail [] each = refl
   whole_of mail (s ∷ seats) each =
       let a = sum_by-cons (λ (t : SeatView T Q). t.share) s seats in let b = each.0.1 in let r = whole_of mail seats each.1 in omega (arith, a, b, r)
 
-  pub whole_share : (mail : MailId) (seats : List (SeatView T Q)) → All (λ (s : SeatView T Q). (s.mail ≡ mail) × (s.share ≡ 1)) seats → sum_by (λ (s : SeatView T Q). s.share) seats ≡ length seats
+  pub whole_share : (mail : MailId) (seats : List (SeatView T Q)) → All (λ (s : SeatView T Q). (s.mail ≡ mail) × (s.share ≡ 1)) seats
+      → sum_by (λ (s : SeatView T Q). s.share) seats ≡ length seats
   whole_share mail seats each = whole_of mail seats (recursion_from_All (λ (s : SeatView T Q). (s.mail ≡ mail) × (s.share ≡ 1)) seats each)
 
 -- the members of two lists together
-pub both_lists : {X : Type 0} (xs ys all : List X) (n m : ℕ) (P : X → Type 0) → all ≡ xs ++ ys → All P xs × (length xs ≡ n) → All P ys × (length ys ≡ m) → All P all × (length all ≡ n + m)
+pub both_lists : {X : Type 0} (xs ys all : List X) (n m : ℕ) (P : X → Type 0) → all ≡ xs ++ ys → All P xs × (length xs ≡ n) → All P ys × (length ys ≡ m)
+    → All P all × (length all ≡ n + m)
 both_lists {X} xs ys all n m P is left right =
     let a = ap (λ (l : List X). length l) is in let b = length-append xs ys in let c = left.1 in let d = right.1 in (
-      subst (All P) (sym is) (All-from_recursion P (xs ++ ys) (AllByRecursion-append P xs ys (recursion_from_All P xs left.0) (recursion_from_All P ys right.0))),
+      subst (All P) (sym is) (All-from_recursion P (xs ++ ys)
+          (AllByRecursion-append P xs ys (recursion_from_All P xs left.0) (recursion_from_All P ys right.0))),
       omega (arith, a, b, c, d),
     )

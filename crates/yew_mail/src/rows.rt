@@ -91,7 +91,11 @@ fn a_gift_is_fetched_or_left(rt: HostRuntime) -> Result<(), Fail> {
 }
 
 /// The second of two workers asks the first one, whose box is still shut, or was closed again: no ask comes in time.
-fn too_early_or_late<P: Problem>(rt: &impl Abort, alloc: Global, problem: &P) -> Result<(), Memory> {
+fn too_early_or_late<P: Problem>(
+    rt: &impl Abort,
+    alloc: Global,
+    problem: &P,
+) -> Result<(), Memory> {
     let (mail, mut first, mut second) = pair(alloc, problem)?;
     let Seen::Shut = mail.look(&mut first) else {
         panic!(rt; "a new box is not shut")

@@ -239,7 +239,8 @@ fn seated<P: Problem>(
     mut seats: Vec<MailSeat<P>>,
 ) -> Result<Vec<Worker<P>>, Memory>
     requires { seats.items ≡ map (new_seat mail.now problem.now) (numbers_to mail.now.workers) }
-    ensures { IfOk result (λ workers. All (λ w. IsSeatOf mail.now problem.now w.number w.asks w.seat) workers.items × (length workers.items ≡ mail.now.workers)) }
+    ensures { IfOk result (λ workers. All (λ w. IsSeatOf mail.now problem.now w.number w.asks w.seat) workers.items
+        × (length workers.items ≡ mail.now.workers)) }
 {
     let _ = problem;
     let mut workers = Vec::with_capacity(alloc, mail.workers() as usize)?;
@@ -348,7 +349,8 @@ fn in_two<R: Threads + Sync>(
     requires count { (1 < mail.now.workers) × (mail.now.workers ≤ 64) }
     requires first { All (λ w. IsSeatOf mail.now star.now w.number w.asks w.seat) workers.0.items }
     requires second { All (λ w. IsSeatOf mail.now star.now w.number w.asks w.seat) workers.1.items }
-    ensures { IfOk result (λ after. All (λ w. IsSeatOf mail.now star.now w.number w.asks w.seat) after.items × (length after.items ≡ length workers.0.items + length workers.1.items)) }
+    ensures { IfOk result (λ after. All (λ w. IsSeatOf mail.now star.now w.number w.asks w.seat) after.items
+        × (length after.items ≡ length workers.0.items + length workers.1.items)) }
 {
     let (left, right) = workers;
     let counts = (left.len(), right.len());
@@ -421,9 +423,7 @@ fn traded<R: Threads + Sync>(
 ) -> Result<(Vec<u32>, Vec<u32>), Memory>
     requires { (1 < workers) × (workers ≤ 64) }
 {
-    let star = Star {
-        leaves: 4_000_000,
-    };
+    let star = Star { leaves: 4_000_000 };
     let (mail, seats) = Mail::new(alloc, &star, workers)?;
     let all = seated(alloc, &mail, &star, seats)?;
     let all = if four {

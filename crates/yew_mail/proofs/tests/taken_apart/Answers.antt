@@ -6,7 +6,7 @@ use Rattle.yew_mail.proofs.tests.taken_apart.Goals as goal
 pub loop-worker-preserved : goal.loop-worker-preserved
 loop-worker-preserved g c =
     let both = all_popped c.loop-worker.workers.items c.pop.new.self.items c.in-Some.worker
-        (λ w. IsSeatOf c.args.mail.now c.args.problem.now w.number w.asks w.seat) c.in-Some.ensures.items c.loop-worker.invariant.workers in
+    (λ w. IsSeatOf c.args.mail.now c.args.problem.now w.number w.asks w.seat) c.in-Some.ensures.items c.loop-worker.invariant.workers in
     record {
       workers = both.0;
       seats = all_pushed c.loop-worker.seats.items c.push.new.self.items c.in-Some.worker.seat
