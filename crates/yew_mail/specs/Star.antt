@@ -1,7 +1,7 @@
 -- A wide tree for tests: the children of 0 are so many numbers from 1 on, which have none.
 use Rattle.std.specs.Prelude.{◌≡◌, ◌≢◌, ℕ, ◌+◌, ◌-◌, ◌<◌, ◌≤◌, ◌^◌, List, [], ◌∷◌, length, Some, slice_get, option_and_then, refl}
 use Rattle.std.specs.List.{AllByRecursion, range_with_len}
-use Rattle.std.proofs.Common.{zero, suc, arith, ap, ◌∙◌}
+use Rattle.std.proofs.Common.{zero, suc, arith, ap}
 use Rattle.std.proofs.lemmas.List.FromFn.{length-range_with_len}
 use Rattle.yew_laws.specs.Tree.{IsRanked, IsBounded, node_at}
 use Rattle.yew_laws.proofs.Bounds.{IsBounded-from_steps}

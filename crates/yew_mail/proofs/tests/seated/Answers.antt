@@ -1,4 +1,4 @@
-use Rattle.std.proofs.Common.{◌≡◌, ◌+◌, ◌-◌, ◌<◌, ◌≤◌, ◌∙◌, ℕ, map, rules, arith, ap}
+use Rattle.std.proofs.Common.{◌≡◌, ◌+◌, ◌-◌, ◌∙◌, ℕ, map, arith, ap}
 use Rattle.std.proofs.lemmas.Grind.{common_steps}
 use Rattle.yew_mail.specs.Players.{IsSeatOf}
 use Rattle.yew_mail.specs.Seats.{new_seat}

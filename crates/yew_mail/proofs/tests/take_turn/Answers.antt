@@ -1,4 +1,4 @@
-use Rattle.std.proofs.Common.{◌≡◌, ◌∙◌, ℕ, List, ap, sym, subst, arith}
+use Rattle.std.proofs.Common.{◌∙◌, ℕ, List, ap, sym, subst, arith}
 use Rattle.std.specs.Prelude.{Some}
 use Rattle.yew_laws.specs.Tree.{node_at}
 use Rattle.yew_mail.specs.Star.{children_of, IsWithin, leaf_found}
