@@ -7,6 +7,7 @@ pub mod Frames
 pub mod FullTrees
 pub mod Growth
 pub mod Kept
+pub mod KnownPaths
 pub mod LawfulParts
 pub mod Nesting
 pub mod Pieces

@@ -25,10 +25,10 @@ mod verdict;
 mod walking;
 
 pub use fault::SearchFault;
-pub use hand::Hand;
+pub use hand::{Hand, empty_hand};
 pub use keying::Keying;
 pub use outlet::{Outbox, Outlet};
 pub use policy::{Act, Budget, Depth, Event, Hungry, Plain, Policy};
 pub use search::{Found, search_plain};
-pub use verdict::{Verdict, consider};
+pub use verdict::{Verdict, consider, judge};
 pub use walking::walk;
