@@ -14,6 +14,7 @@ pub mod Pieces
 pub mod Places
 pub mod PlainKey
 pub mod PolicyRows
+pub mod SentKinds
 pub mod SeqLawful
 pub mod SeqLaws
 pub mod SeqUnique

@@ -27,4 +27,5 @@ pub mod WalkEnds
 pub mod WalkSteps
 pub mod Walkings
 pub mod WholeSums
+pub mod WorkerLogs
 pub mod Worths
