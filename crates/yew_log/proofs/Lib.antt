@@ -10,6 +10,7 @@ pub mod Kept
 pub mod KnownPaths
 pub mod LawfulParts
 pub mod Nesting
+pub mod PathOrders
 pub mod Pieces
 pub mod Places
 pub mod PlainKey

@@ -1,6 +1,9 @@
 //! The laws of logs. Each function is a law: it does nothing, and its contract is proved once for all that cite it.
 
 ghost use Rattle.std.specs.Prelude.{◌≡◌, ◌<◌, ◌≤◌, ℕ, Bool, List, length};
+ghost use Rattle.std.specs.Cmp.Lexicographic.{slice_cmp};
+ghost use Rattle.std.specs.Ordering.{nat_cmp, is_lt};
+ghost use Rattle.yew_laws.specs.Order.{comes_before};
 ghost use Rattle.yew_laws.specs.SearchTree.{search_tree};
 ghost use Rattle.yew_log.specs.AuditFull.{IsAuditFull, IsLarge};
 ghost use Rattle.yew_log.specs.Groups.{Part, Skeleton, sequential, by_depth, by_budget, by_steal, in_order, HasGroups, NoGroup, SkeletonGroup};
@@ -10,7 +13,7 @@ ghost use Rattle.yew_log.specs.Policies.{HasPolicy, plain_policy, depth_policy, 
 ghost use Rattle.yew_log.specs.Segment.{Segment, IsSegment};
 ghost use Rattle.yew_log.specs.SeqLog.{seq_log};
 
-use yew_laws::Problem;
+use yew_laws::{Path, Problem};
 
 /// The sequential log of a problem is lawful with any gap, and each lawful sequential log is that one.
 pub fn seq_log_is_lawful<P: Problem>(problem: &P)
@@ -62,4 +65,13 @@ pub fn groups_send_one_kind<P: Problem>(problem: &P)
         depth ≤ length s.task → IsSegment t s → HasGroups NoGroup s.body → HasGroups (SkeletonGroup t (in_order depth)) s.body }
 {
     let _ = problem;
+}
+
+/// The order of paths is one: a path is less than another exactly where it comes before it, a prefix first, and otherwise
+/// by the first number that differs.
+pub fn less_comes_before(first: &Path, second: &Path) -> bool
+    ensures less { result ≡ comes_before first.now.numbers second.now.numbers }
+    ensures order { (p q : List ℕ) → is_lt (slice_cmp nat_cmp p q) ≡ comes_before p q }
+{
+    first < second
 }
