@@ -1,6 +1,10 @@
 //! Whole logs of small searches, each shown to be lawful, and wrong ones shown not to be: a test of the definitions of
-//! `yew_log`. Each function is a law: it does nothing, and its contract is proved.
+//! `yew_log`. Each function is a law: it does nothing, and its contract is proved. The tests run the calls of a stack, a
+//! walk and a sequential search on numerical semigroups.
 #![tactic(auto)]
+
+#[cfg(test)]
+mod tests;
 
 ghost use Rattle.std.specs.Prelude.{◌≡◌, [], ◌∷◌, None};
 ghost use Rattle.yew_log.specs.Groups.{sequential, one, by_depth, by_budget, by_steal, in_order};
