@@ -1,17 +1,16 @@
 -- Which entries the groups of a skeleton have, and the groups of a walk that has none.
-use Rattle.std.proofs.Common.{◌≡◌, ◌≢◌, ℕ, suc, ◌<◌, ◌≤◌, List, [], ◌∷◌, ◌++◌, map, length, Bool, true, false, ◌==◌, if◌then◌else◌, ◌⊎◌, inl, inr, refl, ap, sym, subst, ◌∙◌, arith}
-use Rattle.std.specs.Prelude.{IsTrue}
-use Rattle.std.specs.List.{AllByRecursion, Contains, flat_map}
+use Rattle.std.proofs.Common.{◌≡◌, ◌≢◌, ℕ, ◌≤◌, List, [], ◌∷◌, ◌++◌, map, length, Bool, true, false, if◌then◌else◌, inl, inr, refl, ap, sym, subst, ◌∙◌, arith}
+use Rattle.std.specs.List.{AllByRecursion, flat_map}
 use Rattle.std.proofs.lemmas.Bool.Decides.{nat_tests}
 use Rattle.std.proofs.lemmas.List.Elements.{All-contains, All-from_recursion}
 use Rattle.yew_laws.specs.Order.{is_path, parent_of}
 use Rattle.yew_laws.specs.SearchTree.{SearchTree, child_paths}
 use Rattle.yew_laws.proofs.Members.{AllByRecursion-append}
 use Rattle.yew_laws.proofs.PathTests.{is_path-is, is_path-same}
-use Rattle.yew_log.specs.Groups.{Part, one, all, part_of, group_of, lowest_left, HasGroups, NoGroup, SkeletonGroup, by_depth, by_budget, by_steal, in_order, is_visit_above, is_visit_over, is_due_end}
-use Rattle.yew_log.specs.Notes.{Note, taken, visited, cut, spawned, handed, ended, judgement, judgement_in, event_in, taken_in, spawned_in, handed_in, taken_paths, spawned_paths, handed_paths, sent_paths, visited_paths}
+use Rattle.yew_log.specs.Groups.{Part, part_of, group_of, lowest_left, HasGroups, NoGroup, SkeletonGroup, by_depth, by_budget, by_steal, in_order, is_visit_above, is_visit_over, is_due_end}
+use Rattle.yew_log.specs.Notes.{Note, taken, visited, cut, spawned, handed, ended, judgement, judgement_in, event_in, spawned_in, handed_in, taken_paths, spawned_paths, handed_paths, sent_paths, visited_paths}
 use Rattle.yew_log.specs.Places.{AtEach}
-use Rattle.yew_log.specs.Segment.{Segment, Begins, EachJudged, HasParent, IsSegment}
+use Rattle.yew_log.specs.Segment.{Segment, Begins, HasParent, IsSegment}
 use Rattle.yew_log.proofs.Growth.{visited-append}
 
 -- entries by which paths are handed over, or spawned, and no events

@@ -1,5 +1,5 @@
 -- The log is lawful.
-use Rattle.std.proofs.Common.{◌≡◌, List, [], ◌∷◌, inl, inr, refl, arith}
+use Rattle.std.proofs.Common.{◌≡◌, List, [], ◌∷◌, inl, refl, arith}
 use Rattle.std.specs.List.{AllByRecursion}
 use Rattle.yew_laws.specs.Tree.{tree}
 use Rattle.yew_log.specs.Notes.{Note, visited, cut, ended}

@@ -1,5 +1,5 @@
 -- What an outlet is asked and given, where the entries grow by one event with its group.
-use Rattle.std.proofs.Common.{◌≡◌, ℕ, List, [], ◌∷◌, ◌++◌, length, Bool, refl, ap, sym, subst, ◌∙◌, append_assoc, append-nil, arith}
+use Rattle.std.proofs.Common.{◌≡◌, ℕ, List, [], ◌∷◌, ◌++◌, length, Bool, refl, ap, sym, ◌∙◌, append_assoc, append-nil, arith}
 use Rattle.yew_log.specs.Groups.{group_of}
 use Rattle.yew_log.specs.Notes.{Note, taken, visited, cut, spawned, handed, ended, event_paths, sent_paths}
 use Rattle.yew_log.specs.Policies.{visit, cut_off, end, PolicyInput, PolicyMeaning, policy_inputs}

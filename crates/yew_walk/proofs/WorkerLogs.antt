@@ -1,19 +1,18 @@
 -- The walks of a worker one after another keep rules 7, 8 and 9 together: its seat knows what was read and offered before.
-use Rattle.std.proofs.Common.{◌≡◌, ◌≢◌, ℕ, ◌+◌, ◌-◌, ◌*◌, ◌/◌, ◌^◌, ◌<◌, ◌≤◌, ◌⊎◌, inl, inr, List, [], ◌∷◌, ◌++◌, map, Some, None, Option, refl, ap, sym, subst, ◌∙◌, append_assoc, append-nil, arith}
-use Rattle.std.specs.Prelude.{All, Contains, IfSome}
+use Rattle.std.proofs.Common.{◌≡◌, ◌≢◌, ℕ, ◌/◌, ◌^◌, ◌<◌, ◌≤◌, ◌⊎◌, inl, inr, List, [], ◌∷◌, ◌++◌, map, Some, None, Option, refl, ap, sym, subst, ◌∙◌, append_assoc, append-nil, arith}
+use Rattle.std.specs.Prelude.{Contains, IfSome}
 use Rattle.std.specs.List.{AllByRecursion}
 use Rattle.std.proofs.lemmas.List.{map-append}
 use Rattle.std.proofs.lemmas.List.Concat.{flat_map-append}
 use Rattle.std.proofs.lemmas.List.Elements.{All-contains, All-from_recursion, recursion_from_All, Contains-append_left}
 use Rattle.yew_best.specs.Seats.{SeatView}
 use Rattle.yew_laws.specs.SearchTree.{SearchTree, bound_at}
-use Rattle.yew_laws.proofs.Members.{AllByRecursion-append, AllByRecursion-map, AllByRecursion-weaker, Contains-map}
+use Rattle.yew_laws.proofs.Members.{AllByRecursion-append, AllByRecursion-weaker, Contains-map}
 use Rattle.yew_log.specs.Attained.{limit}
 use Rattle.yew_log.specs.HeldValues.{KeyKind, plain, ranked, HeldRises, HeldIsMaximum, IsJudged, IsLater}
-use Rattle.yew_log.specs.Items.{ranked_key}
 use Rattle.yew_log.specs.Notes.{Note, taken, visited, cut, spawned, handed, ended, Judgement, judgement, visit_in, judgement_in, judgements, visits, values, held_values, maximum}
 use Rattle.yew_log.specs.Places.{AtEach}
-use Rattle.yew_log.specs.Segment.{Segment, entries, entries_in}
+use Rattle.yew_log.specs.Segment.{entries, entries_in}
 use Rattle.yew_log.proofs.Growth.{HeldRises-append, worths-append}
 use Rattle.yew_log.proofs.Places.{AtEach-append}
 use Rattle.yew_log.proofs.Walks.{IsJudged-join}
