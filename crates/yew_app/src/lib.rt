@@ -7,14 +7,17 @@
 #![tactic(auto)]
 
 mod best;
+mod job;
 mod knapsack;
+mod laws;
 mod made;
-mod nodes;
 mod plan;
 mod reading;
 mod refusal;
 mod run;
+mod search;
 mod semigroups;
+mod solution;
 mod solve;
 mod subgraph;
 mod tail;
