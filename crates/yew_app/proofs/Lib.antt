@@ -10,6 +10,7 @@ pub mod OneWays
 pub mod PlainAudits
 pub mod PlainTexts
 pub mod Plains
+pub mod ReportNumbers
 pub mod SearchedTrees
 pub mod Serving
 pub mod TourWorths

@@ -9,7 +9,7 @@
 mod best;
 mod job;
 mod knapsack;
-mod laws;
+pub mod laws;
 mod made;
 mod plan;
 mod reading;
