@@ -9,7 +9,7 @@ use Rattle.yew_io.specs.Shelf.{File, bytes_of}
 use Rattle.yew_io.specs.Reading.{IsWhole, IsLonger}
 use Rattle.yew_app.specs.Judging.{IsRead, IsUnread, RefusesBytes, IsRefusedFile, IsFileReason, IsEndOf}
 use Rattle.yew_app.specs.Reasons.{reason_of_end}
-use Rattle.yew_app.specs.Refusals.{Reason, BadUsage, CannotRead, NotInGrammar, TooLong, TooLarge, CannotWrite, NoMemory, FullAudit}
+use Rattle.yew_app.specs.Refusals.{Reason, BadUsage, CannotRead, NotInGrammar, TooLong, TooLarge, CannotWrite, NoMemory, FullAudit, TaskPastLimit}
 
 module _ {X : Type 0} (IsGood : List ℕ → X → Type 0) (IsOffence : List ℕ → TextKind → ℕ → Type 0) (IsPast : List ℕ → ℕ → ℕ → Type 0) where
   -- what the laws of a kind of file say: a file has at most one first offence and one first number past its limit, and at
@@ -48,11 +48,13 @@ module _ {X : Type 0} (IsGood : List ℕ → X → Type 0) (IsOffence : List ℕ
     one_reason name bytes CannotWrite b p q = absurd p
     one_reason name bytes NoMemory b p q = absurd p
     one_reason name bytes (FullAudit worker entries numbers) b p q = absurd p
+    one_reason name bytes (TaskPastLimit number) b p q = absurd p
     one_reason name bytes a (BadUsage place kind) p q = absurd q
     one_reason name bytes a (CannotRead file) p q = absurd q
     one_reason name bytes a CannotWrite p q = absurd q
     one_reason name bytes a NoMemory p q = absurd q
     one_reason name bytes a (FullAudit worker entries numbers) p q = absurd q
+    one_reason name bytes a (TaskPastLimit number) p q = absurd q
 
     -- good bytes are read to their end, but for want of memory
     pub good-end : (bytes : List ℕ) (value : X) (end : FileEnd) → IsGood bytes value → IsEndOf IsOffence IsPast bytes end → end ≡ ends.Memory
@@ -70,6 +72,7 @@ module _ {X : Type 0} (IsGood : List ℕ → X → Type 0) (IsOffence : List ℕ
     good_not_refused name bytes value CannotWrite short good q = q
     good_not_refused name bytes value NoMemory short good q = q
     good_not_refused name bytes value (FullAudit worker entries numbers) short good q = q
+    good_not_refused name bytes value (TaskPastLimit number) short good q = q
 
     -- the same of the file of a name
     refused_at : (told : List File) (name bytes : List ℕ) (reason : Reason) → bytes_of told name ≡ Some bytes → IsRefusedFile IsOffence IsPast told name reason → RefusesBytes IsOffence IsPast name bytes reason
@@ -101,6 +104,7 @@ module _ {X : Type 0} (IsGood : List ℕ → X → Type 0) (IsOffence : List ℕ
   unread_reason files name (BadUsage place kind) why = absurd why
   unread_reason files name CannotWrite why = absurd why
   unread_reason files name (FullAudit worker entries numbers) why = absurd why
+  unread_reason files name (TaskPastLimit number) why = absurd why
 
   -- bytes that were read
   told_refused : (files : Option (List File)) (name bytes : List ℕ) (reason : Reason) → IsWhole files name bytes → RefusesBytes IsOffence IsPast name bytes reason → IfSome files (λ told. IsRefusedFile IsOffence IsPast told name reason)

@@ -17,7 +17,7 @@ use Rattle.yew_words.specs.Plans.{Planned, PlanOf}
 use Rattle.yew_app.specs.Jobs.{of_job}
 use Rattle.yew_app.specs.MadeTexts.{IsMadeText}
 use Rattle.yew_app.specs.Meanings.{Meaning, known_files, IsOneWay, searched, AnswersFiles, MeetsFiles, IsFineFiles, StopsFiles}
-use Rattle.yew_app.specs.Refusals.{Reason, BadUsage, CannotRead, NotInGrammar, TooLong, TooLarge, FullAudit, CannotWrite, NoMemory, IsFullOrMemory}
+use Rattle.yew_app.specs.Refusals.{Reason, BadUsage, CannotRead, NotInGrammar, TooLong, TooLarge, FullAudit, TaskPastLimit, CannotWrite, NoMemory, IsFullOrMemory}
 use Rattle.yew_app.specs.Runs.{IsPlain, AnswersJob, RefusesJob, MeetsJob, IsFineJob, StopsJob, RefusesFiles, FillsAudit, IsFine, IsCause}
 
 -- a log that was full is that of a sequential log past the limits
@@ -70,6 +70,7 @@ module _ {X N : Type 0} (m : Meaning X N) (one : IsOneWay m) (audit : Bool) (tol
   stopped-refused NoMemory reason none stops refused = inr refl
   stopped-refused (BadUsage place kind) reason none stops refused = absurd stops
   stopped-refused CannotWrite reason none stops refused = absurd stops
+  stopped-refused (TaskPastLimit number) reason none stops refused = absurd stops
 
   -- a search whose log is past the limits stops a run where its audit is full
   stopped-meets : (is : Reason) → NoFault is → StopsFiles m audit (Some told) is → MeetsFiles m told → IsFullOrMemory is
@@ -81,6 +82,7 @@ module _ {X N : Type 0} (m : Meaning X N) (one : IsOneWay m) (audit : Bool) (tol
   stopped-meets NoMemory none stops meets = tt
   stopped-meets (BadUsage place kind) none stops meets = absurd stops
   stopped-meets CannotWrite none stops meets = absurd stops
+  stopped-meets (TaskPastLimit number) none stops meets = absurd stops
 
   -- and where nothing is wrong, want of memory alone stops it
   stopped-fine : (is : Reason) → NoFault is → StopsFiles m audit (Some told) is → IsFineFiles m audit told → is ≡ NoMemory
@@ -93,6 +95,7 @@ module _ {X N : Type 0} (m : Meaning X N) (one : IsOneWay m) (audit : Bool) (tol
   stopped-fine NoMemory none stops fine = refl
   stopped-fine (BadUsage place kind) none stops fine = absurd stops
   stopped-fine CannotWrite none stops fine = absurd stops
+  stopped-fine (TaskPastLimit number) none stops fine = absurd stops
 
 -- three facts of a job together
 pub meet-job : (job : Job) (names : List Word) (plan : Planned) {R : Type 0} (A B C : Made → Type 0) (K L M : (X N : Type 0) → Meaning X N → Type 0)
@@ -121,6 +124,7 @@ module _ (words : List Word) (plan : Planned) (plain : IsPlain words plan) where
   cause-of files (TooLong name) why = record { plan = plan; plain = plain; why = why }
   cause-of files (TooLarge name number limit) why = record { plan = plan; plain = plain; why = why }
   cause-of files (FullAudit worker entries numbers) why = record { plan = plan; plain = plain; why = why }
+  cause-of files (TaskPastLimit number) why = record { plan = plan; plain = plain; why = why }
   cause-of files NoMemory why = tt
   cause-of files (BadUsage place kind) why = never why
     where

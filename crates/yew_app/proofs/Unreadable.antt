@@ -6,7 +6,7 @@ use Rattle.yew_text.specs.declared.text.TextKind.{TextKind}
 use Rattle.yew_words.specs.Word.{Word}
 use Rattle.yew_app.specs.Judging.{IsRefusedFile, IsFileReason}
 use Rattle.yew_app.specs.Meanings.{Meaning, IsUnreadable}
-use Rattle.yew_app.specs.Refusals.{Reason, BadUsage, CannotRead, NotInGrammar, TooLong, TooLarge, FullAudit, CannotWrite, NoMemory}
+use Rattle.yew_app.specs.Refusals.{Reason, BadUsage, CannotRead, NotInGrammar, TooLong, TooLarge, FullAudit, TaskPastLimit, CannotWrite, NoMemory}
 
 -- a fact of the files where they are told follows from another
 pub map_told : (files : Option (List File)) (P Q : List File → Type 0) → ((told : List File) → P told → Q told) → IfSome files P → IfSome files Q
@@ -56,6 +56,7 @@ module _ {X N : Type 0} (m : Meaning X N) (IsOffence : List ℕ → TextKind →
   file-unreadable among opens refuses (BadUsage place kind) why = absurd why
   file-unreadable among opens refuses CannotWrite why = absurd why
   file-unreadable among opens refuses (FullAudit worker entries numbers) why = absurd why
+  file-unreadable among opens refuses (TaskPastLimit number) why = absurd why
 
   -- the shelf's fault is told of the file that was asked for
   pub fault-name : (other : Word) (reason : Reason) → IsFileReason IsOffence IsPast files name reason → reason ≡ CannotRead other → other ≡ name

@@ -9,7 +9,7 @@ use Rattle.yew_log.specs.SeqLog.{seq_log}
 use Rattle.yew_walk.specs.PlainSearch.{searched_tree}
 use Rattle.yew_words.specs.Word.{Word}
 use Rattle.yew_app.specs.Refusals.{Reason, CannotRead, NotInGrammar, TooLong, TooLarge, FullAudit, NoMemory}
-use Rattle.yew_app.specs.Texts.{first_node, IsPlainText}
+use Rattle.yew_app.specs.Texts.{plain_gap, first_node, IsPlainText}
 
 -- What a job means, of instances X whose trees have nodes N: the names of its files in the order in which they are read;
 -- which files are read to which instance; which files let the one of a name be opened; for which reason files are refused,
@@ -52,15 +52,15 @@ module _ {X N : Type 0} (m : Meaning X N) where
 
   -- the files are read, and the sequential log is past what an audit has room for
   abbrev pub MeetsFiles : List File → Type 0
-  MeetsFiles told = (instance : X) × m.Reads told instance × MeetsLimits (seq_log (searched instance) 0)
+  MeetsFiles told = (instance : X) × m.Reads told instance × MeetsLimits (seq_log (searched instance) plain_gap)
 
   -- the files are read, and an audit that is asked for has room for the search
   abbrev pub IsFineFiles : Bool → List File → Type 0
-  IsFineFiles audit told = (instance : X) × m.Reads told instance × (IsTrue audit → ¬ MeetsLimits (seq_log (searched instance) 0))
+  IsFineFiles audit told = (instance : X) × m.Reads told instance × (IsTrue audit → ¬ MeetsLimits (seq_log (searched instance) plain_gap))
 
   -- the log behind the answer that the audit is full, of the files that are read
   abbrev pub FillsFiles : ℕ → ℕ → List File → Type 0
-  FillsFiles entries numbers told = (instance : X) × m.Reads told instance × IsAuditFull (searched instance) 0 sequential 1 entries numbers
+  FillsFiles entries numbers told = (instance : X) × m.Reads told instance × IsAuditFull (searched instance) plain_gap sequential 1 entries numbers
 
   -- why no instance is read: the shelf failed at a file that was to be opened, a file is refused where the files are known,
   -- or memory ran out

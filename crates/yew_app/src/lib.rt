@@ -6,7 +6,6 @@
 //! cause.
 #![tactic(auto)]
 
-mod best;
 mod job;
 mod knapsack;
 pub mod laws;

@@ -43,7 +43,7 @@ pub(crate) fn solve_search<'a, J: ReadJob<'a, S>, S: Shelf<'a>>(
     }
 }
 
-/// Why a search of one worker gave nothing. It numbers no tasks.
+/// Why a search gave nothing.
 fn stopped<'a>(fault: SearchFault) -> Refusal<'a>
     ensures { reason_of result ≡ search_reason fault }
 {
@@ -57,7 +57,8 @@ fn stopped<'a>(fault: SearchFault) -> Refusal<'a>
             entries,
             numbers,
         },
-        SearchFault::Memory | SearchFault::TooManyTasks { .. } => Refusal::Memory,
+        SearchFault::TooManyTasks { number } => Refusal::TaskPastLimit { number },
+        SearchFault::Memory => Refusal::Memory,
     }
 }
 
