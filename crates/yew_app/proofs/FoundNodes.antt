@@ -1,14 +1,12 @@
 -- The node at the path that a search answers is the solution.
 use Rattle.std.proofs.Common.{◌≡◌, ◌≢◌, ◌≤◌, ℕ, List, Option, Some, None, Result, Ok, Err, refl, ap, sym, subst, ◌∙◌}
-use Rattle.std.specs.Prelude.{IsSome, IsNone, IfSome, IfNone, IfOk, IsSomeAnd, All, Contains, option_and_then}
+use Rattle.std.specs.Prelude.{IsNone, IfSome, IfNone, IfOk, IsSomeAnd, All, Contains, option_and_then}
 use Rattle.std.specs.Option.{option_map}
 use Rattle.std.proofs.lemmas.List.Elements.{All-contains, All-from_recursion}
-use Rattle.std.proofs.lemmas.Option.{none-some, same_Some}
 use Rattle.yew_kinds.specs.declared.kind.Answer.TheVariants as answers
 use Rattle.yew_kinds.specs.declared.kind.Kind.{Kind}
 use Rattle.yew_kinds.specs.declared.kind.Kind.TheVariants as kinds
-use Rattle.yew_kinds.specs.Wrappers.{clipped_tree}
-use Rattle.yew_laws.specs.Greatest.{first_best, Reach}
+use Rattle.yew_laws.specs.Greatest.{Reach}
 use Rattle.yew_laws.specs.PathValue.{PathValue}
 use Rattle.yew_laws.specs.SearchTree.{SearchTree, preorder, at_path, worth_at}
 use Rattle.yew_laws.specs.Tree.{Member, IsRanked}
@@ -19,7 +17,6 @@ use Rattle.yew_walk.specs.Kinds.{IsAnswer}
 use Rattle.yew_walk.proofs.Bests.{member-at_path, rebuilt-IsSome}
 use Rattle.yew_app.specs.declared.solution.Solution.TheVariants as solutions
 use Rattle.yew_app.specs.Solutions.{IsBestNode, IsReachedNode, IsSolution}
-use Rattle.yew_app.specs.Texts.{first_node}
 
 -- a node whose worth has a property
 record HasWorth {N : Type 0} (worth : N → ℕ) (P : ℕ → Type 0) (found : Option N) : Type 0 where

@@ -1,5 +1,5 @@
 -- What the numbers of a report have to do with each other.
-use Rattle.std.proofs.Common.{◌≡◌, ℕ, zero, suc, ◌+◌, ◌≤◌, ◌⊎◌, inl, inr, List, [], ◌∷◌, ◌++◌, length, map, Option, Some, None, refl, ap, sym, subst, ◌∙◌, arith, append-nil}
+use Rattle.std.proofs.Common.{◌≡◌, ℕ, suc, ◌+◌, ◌≤◌, ◌⊎◌, inl, inr, List, [], ◌∷◌, ◌++◌, length, map, Option, Some, None, refl, ap, sym, subst, ◌∙◌, arith, append-nil}
 use Rattle.std.specs.Prelude.{Contains}
 use Rattle.std.specs.List.{AllByRecursion, flat_map, sum_by}
 use Rattle.std.specs.Option.{option_map}
@@ -7,8 +7,7 @@ use Rattle.std.proofs.lemmas.List.Elements.{All-contains, All-from_recursion}
 use Rattle.std.proofs.lemmas.Option.{same_Some, none-some}
 use Rattle.yew_kinds.specs.Wrappers.{counted_tree}
 use Rattle.yew_laws.specs.SearchTree.{SearchTree, at_path, below, tree_paths}
-use Rattle.yew_laws.proofs.Members.{AllByRecursion-append}
-use Rattle.yew_log.specs.Attained.{Attained, limit}
+use Rattle.yew_log.specs.Attained.{limit}
 use Rattle.yew_log.specs.Groups.{Skeleton}
 use Rattle.yew_log.specs.Notes.{Note, taken, visited, cut, spawned, handed, ended, Judgement, visits, cuts, values, taken_paths, sent_paths, spawned_paths, handed_paths, visited_paths}
 use Rattle.yew_log.specs.Totals.{totals_of}
@@ -85,7 +84,7 @@ module _ {N : Type 0} (t : SearchTree N) where
       let notes = joined logs in
       let none = count-cuts gap skeleton workers logs solution are in
       let all : sum_by (λ path. 1) (visited_paths notes ++ []) ≡ sum_by (λ path. 1) (tree_paths t) =
-          subst (λ cs. sum_by (λ path. 1) (visited_paths notes ++ flat_map (below (counted_tree t)) (map (λ (j : Judgement). j.path) cs)) ≡ sum_by (λ path. 1) (tree_paths t)) none (are.cover.each_once.weighs (λ path. 1)) in
+      subst (λ cs. sum_by (λ path. 1) (visited_paths notes ++ flat_map (below (counted_tree t)) (map (λ (j : Judgement). j.path) cs)) ≡ sum_by (λ path. 1) (tree_paths t)) none (are.cover.each_once.weighs (λ path. 1)) in
       let bare = append-nil (visited_paths notes) in
       let ones = total-ones (visited_paths notes) in
       let nodes = total-ones (tree_paths t) in

@@ -1,5 +1,5 @@
 -- The tree that a search of a kind goes through is lawful, so its one log is the logs of a whole search.
-use Rattle.std.proofs.Common.{◌≡◌, [], ◌∷◌, sym, subst}
+use Rattle.std.proofs.Common.{[], ◌∷◌}
 use Rattle.yew_kinds.specs.declared.kind.Kind.{Kind}
 use Rattle.yew_kinds.specs.declared.kind.Kind.TheVariants as kinds
 use Rattle.yew_kinds.specs.WrapperLaws.{counted-bounded, clipped-bounded}

@@ -1,5 +1,5 @@
 -- Why a file of a job gives nothing is why the job has no instance.
-use Rattle.std.proofs.Common.{◌≡◌, ◌≤◌, ℕ, List, [], ◌∷◌, Option, Some, None, refl, sym, subst, arith}
+use Rattle.std.proofs.Common.{◌≡◌, ℕ, List, ◌∷◌, Option, Some, None, refl, sym, subst, arith}
 use Rattle.std.specs.Prelude.{IfSome, Contains}
 use Rattle.yew_io.specs.Shelf.{File}
 use Rattle.yew_text.specs.declared.text.TextKind.{TextKind}

@@ -61,7 +61,9 @@ pub(crate) trait SearchJob {
     ) -> Result<Vec<u8>, Memory>
         requires root { Self.Instance.sound problem.now (Self.Instance.root problem.now) }
         requires fit { fit self.now problem.now }
-        requires solution { IsSolution ((meaning self.now).tree problem.now) (Self.Instance.sound problem.now) (Fold ((meaning self.now).tree problem.now) (Self.Tally.join (counts self.now)) (Self.Tally.none (counts self.now)) (Self.Tally.of (counts self.now))) (meaning self.now).kind solution.now }
+        requires solution { let t = (meaning self.now).tree problem.now in
+            let fold = Fold t (Self.Tally.join (counts self.now)) (Self.Tally.none (counts self.now)) (Self.Tally.of (counts self.now)) in
+            IsSolution t (Self.Instance.sound problem.now) fold (meaning self.now).kind solution.now }
         ensures lines { IfOk result (λ lines. lines.items ≡ (meaning self.now).lines problem.now (first_node (searched (meaning self.now) problem.now))) }
         ensures right { IfOk result (λ lines. (meaning self.now).IsRight problem.now lines.items) };
 
@@ -77,10 +79,12 @@ pub(crate) trait ReadJob<'a, S: Shelf<'a>>: SearchJob {
     ///
     /// The first file at which the shelf fails or that is refused, or that memory ran out.
     fn read(&self, alloc: Global, shelf: &mut S) -> Result<Self::Instance, Refusal<'a>>
-        ensures read { IfOk result (λ problem. IfSome (known_files (Self.meaning self.now).names (S.files shelf.old)) (λ told. (Self.meaning self.now).Reads told problem)) }
+        ensures read { let m = Self.meaning self.now in
+            IfOk result (λ problem. IfSome (known_files m.names (S.files shelf.old)) (λ told. m.Reads told problem)) }
         ensures root { IfOk result (λ problem. Self.Instance.sound problem (Self.Instance.root problem)) }
         ensures fit { IfOk result (λ problem. Self.fit self.now problem) }
-        ensures refused { IfErr result (λ refusal. IsUnreadable (Self.meaning self.now) (known_files (Self.meaning self.now).names (S.files shelf.old)) (reason_of refusal)) }
+        ensures refused { let m = Self.meaning self.now in
+            IfErr result (λ refusal. IsUnreadable m (known_files m.names (S.files shelf.old)) (reason_of refusal)) }
         ensures read_fault { (name : List ℕ) → IsErrAnd result (λ refusal. reason_of refusal ≡ CannotRead name) →
             Rose (S.faults shelf.old) (S.faults shelf.new) × (S.failed shelf.new ≡ true) × (S.name shelf.new ≡ Some name) }
         ensures files { S.files shelf.new ≡ S.files shelf.old }

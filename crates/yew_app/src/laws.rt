@@ -18,7 +18,8 @@ use yew_laws::Problem;
 
 /// The files of each job that searches are read to one instance or refused for one reason.
 pub(crate) fn files_have_one_way()
-    ensures { (plan : Planned) → length plan.files ≡ file_count_of plan.job → of_job plan.job plan.files plan (λ kind. Unit {0}) (λ X N m. IsOneWay m) }
+    ensures { (plan : Planned) → length plan.files ≡ file_count_of plan.job →
+        of_job plan.job plan.files plan (λ kind. Unit {0}) (λ X N m. IsOneWay m) }
 {
     yew_knap::laws::file_laws();
     yew_tsp::laws::file_laws();
@@ -29,9 +30,11 @@ pub(crate) fn files_have_one_way()
 /// each task that was spawned or handed over was taken, and the root besides; and a count visits each node of the tree and
 /// cuts none.
 pub fn report_numbers<P: Problem>(problem: &P)
-    ensures tasks { (gap workers : ℕ) (skeleton : Skeleton) (logs : List (List Note)) (solution : Option P.Node) → AreLogs (search_tree P.Problem problem.now) gap skeleton workers logs solution →
+    ensures tasks { (gap workers : ℕ) (skeleton : Skeleton) (logs : List (List Note)) (solution : Option P.Node) →
+        AreLogs (search_tree P.Problem problem.now) gap skeleton workers logs solution →
         (totals_of (joined logs)).taken ≡ (totals_of (joined logs)).spawned + (totals_of (joined logs)).handed + 1 }
-    ensures count { (gap workers : ℕ) (skeleton : Skeleton) (logs : List (List Note)) (solution : Option P.Node) → AreLogs (counted_tree (search_tree P.Problem problem.now)) gap skeleton workers logs solution →
+    ensures count { (gap workers : ℕ) (skeleton : Skeleton) (logs : List (List Note)) (solution : Option P.Node) →
+        AreLogs (counted_tree (search_tree P.Problem problem.now)) gap skeleton workers logs solution →
         ((totals_of (joined logs)).cut ≡ 0) × ((totals_of (joined logs)).visited ≡ length (tree_paths (search_tree P.Problem problem.now))) }
 {
     let _ = problem;

@@ -134,17 +134,21 @@ fn solve_made<P: Problem>(alloc: Global, problem: &P) -> Result<Solved, Memory>
     ensures totals { IfOk result (λ solved. solved.totals ≡ sequential_totals (search_tree P.Problem problem.now)) }
 {
     match search_plain::<_, _, Counts>(alloc, problem, Kind::Best, &NoTally) {
-        Ok(Found {
-            answer: Answer::Best { worth, .. },
-            logs,
-        }) => Ok(Solved {
+        Ok(
+            Found {
+                answer: Answer::Best { worth, .. },
+                logs,
+            },
+        ) => Ok(Solved {
             worth,
             totals: logs[0].totals(),
         }),
-        Ok(Found {
-            answer: Answer::Count(_) | Answer::Reach(_),
-            ..
-        }) => unreachable!(),
+        Ok(
+            Found {
+                answer: Answer::Count(_) | Answer::Reach(_),
+                ..
+            },
+        ) => unreachable!(),
         Err(SearchFault::Memory) => Err(Memory),
         Err(SearchFault::AuditFull { .. } | SearchFault::TooManyTasks { .. }) => unreachable!(),
     }

@@ -39,7 +39,9 @@ pub enum Refusal<'a> {
         numbers: u64,
     },
     /// The tasks of a frontier have more numbers than there are.
-    TaskPastLimit { number: u64 },
+    TaskPastLimit {
+        number: u64,
+    },
 }
 
 /// A piece of a line.
@@ -196,7 +198,16 @@ fn pieces_of<'a>(refusal: Refusal<'a>) -> [Piece<'a>; 8]
         Refusal::TaskPastLimit { number } => {
             let task = Piece::Text("yew: task number ");
             let past = Piece::Text(" is past the limit");
-            [task, Piece::Number(number), past, end, none, none, none, none]
+            [
+                task,
+                Piece::Number(number),
+                past,
+                end,
+                none,
+                none,
+                none,
+                none,
+            ]
         }
     }
 }

@@ -26,8 +26,10 @@ pub(crate) fn solve_search<'a, J: ReadJob<'a, S>, S: Shelf<'a>>(
     job: &J,
     asked: Asked,
 ) -> Result<Vec<u8>, Refusal<'a>>
-    ensures answers { IfOk result (λ text. IfSome (known_files (J.meaning job.now).names (S.files shelf.old)) (λ told. AnswersFiles (J.meaning job.now) asked.report asked.audit told text.items)) }
-    ensures cause { IfErr result (λ refusal. StopsFiles (J.meaning job.now) asked.audit (known_files (J.meaning job.now).names (S.files shelf.old)) (reason_of refusal)) }
+    ensures answers { let m = J.meaning job.now in
+        IfOk result (λ text. IfSome (known_files m.names (S.files shelf.old)) (λ told. AnswersFiles m asked.report asked.audit told text.items)) }
+    ensures cause { let m = J.meaning job.now in
+        IfErr result (λ refusal. StopsFiles m asked.audit (known_files m.names (S.files shelf.old)) (reason_of refusal)) }
     ensures read_fault { (name : List ℕ) → IsErrAnd result (λ refusal. reason_of refusal ≡ CannotRead name) →
         Rose (S.faults shelf.old) (S.faults shelf.new) × (S.failed shelf.new ≡ true) × (S.name shelf.new ≡ Some name) }
     ensures files { S.files shelf.new ≡ S.files shelf.old }

@@ -36,11 +36,7 @@ pub(crate) fn push_count_line(out: &mut Vec<u8>, word: &[u8], count: u64) -> Res
 }
 
 /// Appends the report of this number of workers, whose logs have these totals together.
-pub(crate) fn push_report(
-    out: &mut Vec<u8>,
-    workers: u32,
-    totals: &Totals,
-) -> Result<(), Memory>
+pub(crate) fn push_report(out: &mut Vec<u8>, workers: u32, totals: &Totals) -> Result<(), Memory>
     ensures { OnOk result (out.new.items ≡ out.old.items ++ report_text workers totals.now) }
 {
     push_text(out, b"workers")?;

@@ -1,7 +1,7 @@
-use Rattle.std.proofs.Common.{◌≡◌, ◌⊎◌, refl, subst, ap, ◌∙◌, inl, inr, ⊎_elim}
+use Rattle.std.proofs.Common.{◌⊎◌, refl, subst, ap, ◌∙◌, inl, inr, ⊎_elim}
 use Rattle.yew_words.specs.Word.{texts}
 use Rattle.yew_app.specs.Reasons.{reason_of}
-use Rattle.yew_app.specs.Refusals.{Reason, NoMemory, CannotWrite, IsFullOrMemory, status_of}
+use Rattle.yew_app.specs.Refusals.{CannotWrite, status_of}
 use Rattle.yew_app.specs.Outcomes.{outside, Says}
 use Rattle.yew_app.proofs.Causes.{has-cause}
 use Rattle.yew_app.proofs.FullAudits.{full-says}

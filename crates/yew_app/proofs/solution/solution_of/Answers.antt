@@ -1,4 +1,3 @@
-use Rattle.yew_kinds.specs.declared.kind.Answer.TheVariants as answers
 use Rattle.yew_laws.specs.SearchTree.{search_tree}
 use Rattle.std.proofs.Common.{subst}
 use Rattle.yew_walk.specs.Kinds.{IsAnswer}

@@ -1,4 +1,4 @@
-use Rattle.std.proofs.Common.{List, Option, [], ◌∷◌, inr, refl, subst}
+use Rattle.std.proofs.Common.{List, Option, [], inr, refl, subst}
 use Rattle.yew_io.specs.Shelf.{File}
 use Rattle.yew_lad.specs.Files.{IsGraphOffence, IsPastLimit}
 use Rattle.yew_app.specs.Judging.{IsRead, IsRefusedFile, IsFileReason}
