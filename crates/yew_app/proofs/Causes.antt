@@ -2,7 +2,7 @@
 use Rattle.std.proofs.Common.{◌≡◌, ℕ, List, Some, true, refl}
 use Rattle.yew_words.specs.Word.{Word}
 use Rattle.yew_io.specs.Faults.{Rose}
-use Rattle.yew_app.specs.Refusals.{Reason, BadUsage, CannotRead, NotInGrammar, TooLong, TooLarge, FullAudit, CannotWrite, NoMemory}
+use Rattle.yew_app.specs.Refusals.{Reason, BadUsage, CannotRead, NotInGrammar, TooLong, TooLarge, FullAudit, TaskPastLimit, CannotWrite, NoMemory}
 use Rattle.yew_app.specs.Runs.{IsCause}
 use Rattle.yew_app.specs.Outcomes.{Outside, HasCause}
 
@@ -14,5 +14,6 @@ has-cause words before after (NotInGrammar name at kind) cause read none = (caus
 has-cause words before after (TooLong name) cause read none = (cause, none)
 has-cause words before after (TooLarge name number limit) cause read none = (cause, none)
 has-cause words before after (FullAudit worker entries numbers) cause read none = (cause, none)
+has-cause words before after (TaskPastLimit number) cause read none = (cause, none)
 has-cause words before after CannotWrite cause read none = absurd cause
 has-cause words before after NoMemory cause read none = (cause, none)

@@ -12,7 +12,8 @@ use Rattle.yew_tsp.specs.Files as tsp
 use Rattle.yew_app.specs.Knapsacks.{IsGoodKnapsack}
 use Rattle.yew_app.specs.ShortestTours.{IsGoodTours}
 use Rattle.yew_app.specs.Subgraphs.{IsGoodGraph}
-use Rattle.yew_app.proofs.FileReasons.{KindLaws, IsEndOf}
+use Rattle.yew_app.specs.Judging.{IsEndOf}
+use Rattle.yew_app.proofs.FileReasons.{KindLaws}
 
 -- the first number past its limit is one
 same_first : (a b : Option Limited) (number other limit other_limit : ℕ) → a ≡ Some (record { number = number; limit = limit }) → b ≡ Some (record { number = other; limit = other_limit }) → a ≡ b → (number ≡ other) × (limit ≡ other_limit)
@@ -37,7 +38,7 @@ knapsack_laws laws = record {
   past_no_offence = λ bytes number limit kind line p. laws.not_both bytes p.instance kind line p.is_file;
 }
 
-pub knapsack_end : (bytes : List ℕ) (end : FileEnd) → knap.EndsReading bytes end → IsEndOf IsGoodKnapsack knap.IsKnapsackOffence knap.IsPastLimit bytes end
+pub knapsack_end : (bytes : List ℕ) (end : FileEnd) → knap.EndsReading bytes end → IsEndOf knap.IsKnapsackOffence knap.IsPastLimit bytes end
 knapsack_end bytes (ends.Refused fault) is = is
 knapsack_end bytes (ends.TooLarge number limit) is = is
 knapsack_end bytes ends.Memory is = is
@@ -52,7 +53,7 @@ tour_laws laws = record {
   past_no_offence = λ bytes number limit kind line p. laws.not_both bytes (tsp.instance_of p.contents) kind line (record { contents = p.contents; has = p.has; instance_is = refl });
 }
 
-pub tour_end : (bytes : List ℕ) (end : FileEnd) → tsp.EndsReading bytes end → IsEndOf IsGoodTours tsp.IsTourOffence tsp.IsPastLimit bytes end
+pub tour_end : (bytes : List ℕ) (end : FileEnd) → tsp.EndsReading bytes end → IsEndOf tsp.IsTourOffence tsp.IsPastLimit bytes end
 tour_end bytes (ends.Refused fault) is = is
 tour_end bytes (ends.TooLarge number limit) is = is
 tour_end bytes ends.Memory is = is
@@ -71,7 +72,7 @@ graph_laws most laws = record {
   past_no_offence = λ bytes number limit kind line p. laws.not_both bytes p.graph kind line p.is_file;
 }
 
-pub graph_end : (most : ℕ) (bytes : List ℕ) (end : FileEnd) → lad.EndsReading most bytes end → IsEndOf (IsGoodGraph most) lad.IsGraphOffence (lad.IsPastLimit most) bytes end
+pub graph_end : (most : ℕ) (bytes : List ℕ) (end : FileEnd) → lad.EndsReading most bytes end → IsEndOf lad.IsGraphOffence (lad.IsPastLimit most) bytes end
 graph_end most bytes (ends.Refused fault) is = is
 graph_end most bytes (ends.TooLarge number limit) is = is
 graph_end most bytes ends.Memory is = is

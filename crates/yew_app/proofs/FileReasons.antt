@@ -1,5 +1,5 @@
 -- A file of a kind is good, or refused for one reason.
-use Rattle.std.proofs.Common.{◌≡◌, ◌<◌, ◌≤◌, ◌^◌, ◌⊎◌, ℕ, List, length, Option, Some, None, false, true, refl, sym, ap, subst, ◌∙◌, inl, inr, arith}
+use Rattle.std.proofs.Common.{◌≡◌, ◌<◌, ◌≤◌, ◌^◌, ℕ, List, length, Option, Some, None, refl, sym, ap, subst, ◌∙◌, arith}
 use Rattle.std.specs.Prelude.{IfSome, IsSomeAnd}
 use Rattle.std.proofs.lemmas.Option.{same_Some}
 use Rattle.yew_text.specs.declared.text.TextKind.{TextKind}
@@ -7,9 +7,9 @@ use Rattle.yew_text.specs.declared.text.FileEnd.{FileEnd}
 use Rattle.yew_text.specs.declared.text.FileEnd.TheVariants as ends
 use Rattle.yew_io.specs.Shelf.{File, bytes_of}
 use Rattle.yew_io.specs.Reading.{IsWhole, IsLonger}
-use Rattle.yew_app.specs.Judging.{IsRead, IsUnread, RefusesBytes, IsRefusedFile, IsFileReason}
+use Rattle.yew_app.specs.Judging.{IsRead, IsUnread, RefusesBytes, IsRefusedFile, IsFileReason, IsEndOf}
 use Rattle.yew_app.specs.Reasons.{reason_of_end}
-use Rattle.yew_app.specs.Refusals.{Reason, BadUsage, CannotRead, NotInGrammar, TooLong, TooLarge, CannotWrite, NoMemory, FullAudit}
+use Rattle.yew_app.specs.Refusals.{Reason, BadUsage, CannotRead, NotInGrammar, TooLong, TooLarge, CannotWrite, NoMemory, FullAudit, TaskPastLimit}
 
 module _ {X : Type 0} (IsGood : List ℕ → X → Type 0) (IsOffence : List ℕ → TextKind → ℕ → Type 0) (IsPast : List ℕ → ℕ → ℕ → Type 0) where
   -- what the laws of a kind of file say: a file has at most one first offence and one first number past its limit, and at
@@ -21,12 +21,6 @@ module _ {X : Type 0} (IsGood : List ℕ → X → Type 0) (IsOffence : List ℕ
     pub good_no_offence : (bytes : List ℕ) (value : X) (kind : TextKind) (line : ℕ) → IsGood bytes value → ¬ IsOffence bytes kind line
     pub good_none_past : (bytes : List ℕ) (value : X) (number limit : ℕ) → IsGood bytes value → ¬ IsPast bytes number limit
     pub past_no_offence : (bytes : List ℕ) (number limit : ℕ) (kind : TextKind) (line : ℕ) → IsPast bytes number limit → ¬ IsOffence bytes kind line
-
-  -- the end of reading is that of these bytes
-  abbrev pub IsEndOf : List ℕ → FileEnd → Type 0
-  IsEndOf bytes (ends.Refused fault) = IsOffence bytes fault.kind fault.line
-  IsEndOf bytes (ends.TooLarge number limit) = IsPast bytes number limit
-  IsEndOf bytes ends.Memory = Unit {0}
 
   module _ (laws : KindLaws) where
     -- bytes are refused for one reason
@@ -54,14 +48,16 @@ module _ {X : Type 0} (IsGood : List ℕ → X → Type 0) (IsOffence : List ℕ
     one_reason name bytes CannotWrite b p q = absurd p
     one_reason name bytes NoMemory b p q = absurd p
     one_reason name bytes (FullAudit worker entries numbers) b p q = absurd p
+    one_reason name bytes (TaskPastLimit number) b p q = absurd p
     one_reason name bytes a (BadUsage place kind) p q = absurd q
     one_reason name bytes a (CannotRead file) p q = absurd q
     one_reason name bytes a CannotWrite p q = absurd q
     one_reason name bytes a NoMemory p q = absurd q
     one_reason name bytes a (FullAudit worker entries numbers) p q = absurd q
+    one_reason name bytes a (TaskPastLimit number) p q = absurd q
 
     -- good bytes are read to their end, but for want of memory
-    pub good-end : (bytes : List ℕ) (value : X) (end : FileEnd) → IsGood bytes value → IsEndOf bytes end → end ≡ ends.Memory
+    pub good-end : (bytes : List ℕ) (value : X) (end : FileEnd) → IsGood bytes value → IsEndOf IsOffence IsPast bytes end → end ≡ ends.Memory
     good-end bytes value (ends.Refused fault) good is = absurd (laws.good_no_offence bytes value fault.kind fault.line good is)
     good-end bytes value (ends.TooLarge number limit) good is = absurd (laws.good_none_past bytes value number limit good is)
     good-end bytes value ends.Memory good is = refl
@@ -76,6 +72,7 @@ module _ {X : Type 0} (IsGood : List ℕ → X → Type 0) (IsOffence : List ℕ
     good_not_refused name bytes value CannotWrite short good q = q
     good_not_refused name bytes value NoMemory short good q = q
     good_not_refused name bytes value (FullAudit worker entries numbers) short good q = q
+    good_not_refused name bytes value (TaskPastLimit number) short good q = q
 
     -- the same of the file of a name
     refused_at : (told : List File) (name bytes : List ℕ) (reason : Reason) → bytes_of told name ≡ Some bytes → IsRefusedFile IsOffence IsPast told name reason → RefusesBytes IsOffence IsPast name bytes reason
@@ -88,50 +85,6 @@ module _ {X : Type 0} (IsGood : List ℕ → X → Type 0) (IsOffence : List ℕ
 
     pub read_not_refused : (told : List File) (name : List ℕ) (value : X) (reason : Reason) → IsRead IsGood told name value → IsRefusedFile IsOffence IsPast told name reason → ⊥
     read_not_refused told name value reason read refused = good_not_refused name read.bytes value reason read.short read.good (refused_at told name read.bytes reason read.there refused)
-
-    -- where the files may not be told: nothing is wrong with a file that is read
-    pub told_none : (files : Option (List File)) (name : List ℕ) (value : X) → IfSome files (λ told. IsRead IsGood told name value) → IfSome files (λ told. (reason : Reason) → IsRefusedFile IsOffence IsPast told name reason → ⊥)
-    told_none None name value read = tt
-    told_none (Some told) name value read = λ reason refused. read_not_refused told name value reason read refused
-
-    -- a file that is refused is refused for its reason alone, and is not good
-    told_only : (files : Option (List File)) (name : List ℕ) (only : Reason) → IfSome files (λ told. IsRefusedFile IsOffence IsPast told name only) → IfSome files (λ told. (reason : Reason) → IsRefusedFile IsOffence IsPast told name reason → (only ≡ reason) ⊎ (only ≡ NoMemory))
-    told_only None name only is = tt
-    told_only (Some told) name only is = λ reason refused. inl (one_reason_of_file told name only reason is refused)
-
-    told_not_fine : (files : Option (List File)) (name : List ℕ) (only : Reason) → IfSome files (λ told. IsRefusedFile IsOffence IsPast told name only) → IfSome files (λ told. ((value : X) × IsRead IsGood told name value) → (false ≡ true) ⊎ (only ≡ NoMemory))
-    told_not_fine None name only is = tt
-    told_not_fine (Some told) name only is = λ read. absurd (read_not_refused told name read.0 only read.1 is)
-
-    memory_only : (files : Option (List File)) (name : List ℕ) → IfSome files (λ told. (reason : Reason) → IsRefusedFile IsOffence IsPast told name reason → (NoMemory ≡ reason) ⊎ (NoMemory ≡ NoMemory))
-    memory_only None name = tt
-    memory_only (Some told) name = λ reason refused. inr refl
-
-    memory_not_fine : (files : Option (List File)) (name : List ℕ) → IfSome files (λ told. ((value : X) × IsRead IsGood told name value) → (false ≡ true) ⊎ (NoMemory ≡ NoMemory))
-    memory_not_fine None name = tt
-    memory_not_fine (Some told) name = λ read. inr refl
-
-    -- why a file gives nothing is the one reason, where the shelf did not fail at it
-    pub reason_only : (files : Option (List File)) (name : List ℕ) (only : Reason) → IsFileReason IsOffence IsPast files name only → (only ≡ CannotRead name → ⊥) → IfSome files (λ told. (reason : Reason) → IsRefusedFile IsOffence IsPast told name reason → (only ≡ reason) ⊎ (only ≡ NoMemory))
-    reason_only files name (CannotRead file) why no_fault = absurd (no_fault (ap (λ (f : List ℕ). CannotRead f) why))
-    reason_only files name (TooLong file) why no_fault = told_only files name (TooLong file) why.1
-    reason_only files name (NotInGrammar file line kind) why no_fault = told_only files name (NotInGrammar file line kind) why.1
-    reason_only files name (TooLarge file number limit) why no_fault = told_only files name (TooLarge file number limit) why.1
-    reason_only files name NoMemory why no_fault = memory_only files name
-    reason_only files name (BadUsage place kind) why no_fault = absurd why
-    reason_only files name CannotWrite why no_fault = absurd why
-    reason_only files name (FullAudit worker entries numbers) why no_fault = absurd why
-
-    -- and the file is not good
-    pub reason_not_fine : (files : Option (List File)) (name : List ℕ) (only : Reason) → IsFileReason IsOffence IsPast files name only → (only ≡ CannotRead name → ⊥) → IfSome files (λ told. ((value : X) × IsRead IsGood told name value) → (false ≡ true) ⊎ (only ≡ NoMemory))
-    reason_not_fine files name (CannotRead file) why no_fault = absurd (no_fault (ap (λ (f : List ℕ). CannotRead f) why))
-    reason_not_fine files name (TooLong file) why no_fault = told_not_fine files name (TooLong file) why.1
-    reason_not_fine files name (NotInGrammar file line kind) why no_fault = told_not_fine files name (NotInGrammar file line kind) why.1
-    reason_not_fine files name (TooLarge file number limit) why no_fault = told_not_fine files name (TooLarge file number limit) why.1
-    reason_not_fine files name NoMemory why no_fault = memory_not_fine files name
-    reason_not_fine files name (BadUsage place kind) why no_fault = absurd why
-    reason_not_fine files name CannotWrite why no_fault = absurd why
-    reason_not_fine files name (FullAudit worker entries numbers) why no_fault = absurd why
 
   -- bytes that were not read
   longer_refused : (files : Option (List File)) (name file : List ℕ) → file ≡ name → IsLonger files name (2 ^ 24) → IfSome files (λ told. IsRefusedFile IsOffence IsPast told name (TooLong file))
@@ -151,13 +104,14 @@ module _ {X : Type 0} (IsGood : List ℕ → X → Type 0) (IsOffence : List ℕ
   unread_reason files name (BadUsage place kind) why = absurd why
   unread_reason files name CannotWrite why = absurd why
   unread_reason files name (FullAudit worker entries numbers) why = absurd why
+  unread_reason files name (TaskPastLimit number) why = absurd why
 
   -- bytes that were read
   told_refused : (files : Option (List File)) (name bytes : List ℕ) (reason : Reason) → IsWhole files name bytes → RefusesBytes IsOffence IsPast name bytes reason → IfSome files (λ told. IsRefusedFile IsOffence IsPast told name reason)
   told_refused None name bytes reason whole why = tt
   told_refused (Some told) name bytes reason whole why = record { bytes = bytes; there = whole; why = why }
 
-  pub end_reason : (files : Option (List File)) (name bytes : List ℕ) (end : FileEnd) → IsWhole files name bytes → length bytes ≤ 2 ^ 24 → IsEndOf bytes end → IsFileReason IsOffence IsPast files name (reason_of_end name end)
+  pub end_reason : (files : Option (List File)) (name bytes : List ℕ) (end : FileEnd) → IsWhole files name bytes → length bytes ≤ 2 ^ 24 → IsEndOf IsOffence IsPast bytes end → IsFileReason IsOffence IsPast files name (reason_of_end name end)
   end_reason files name bytes (ends.Refused fault) whole short is = (refl, told_refused files name bytes (NotInGrammar name fault.line fault.kind) whole (refl, short, is))
   end_reason files name bytes (ends.TooLarge number limit) whole short is = (refl, told_refused files name bytes (TooLarge name number limit) whole (refl, short, is))
   end_reason files name bytes ends.Memory whole short is = tt

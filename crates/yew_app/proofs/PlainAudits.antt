@@ -15,6 +15,7 @@ use Rattle.yew_laws.proofs.Below.{below-unfolds, child-at}
 use Rattle.yew_laws.proofs.Members.{AllByRecursion-append, AllByRecursion-weaker, Contains-head, Contains-tail}
 use Rattle.yew_laws.proofs.Steps.{drop_from_drop}
 use Rattle.yew_log.specs.Attained.{Attained, limit}
+use Rattle.yew_log.specs.AuditFull.{IsLarge, MeetsLimits}
 use Rattle.yew_log.specs.Groups.{sequential}
 use Rattle.yew_log.specs.Items.{in_turn}
 use Rattle.yew_log.specs.Notes.{Note, taken, visited, cut, spawned, handed, ended, Judgement, path_of, visits, cuts, values, maximum, judgement_in, taken_paths, sent_paths, visited_paths, cut_paths}
@@ -186,7 +187,7 @@ module _ {N : Type 0} (t : SearchTree N) where
 abbrev total : (List ℕ → ℕ) → List Note → ℕ
 total w notes = sum_by (λ note. w (path_of note)) notes
 
-total-ones : {X : Type 0} (xs : List X) → sum_by (λ x. 1) xs ≡ length xs
+pub total-ones : {X : Type 0} (xs : List X) → sum_by (λ x. 1) xs ≡ length xs
 total-ones [] = refl
 total-ones (x ∷ xs) = let a = sum_by-cons (λ y. 1) x xs in let r = total-ones xs in a ∙ omega arith
 
@@ -246,3 +247,14 @@ module _ {N : Type 0} (t : SearchTree N) {sound : N → Type 0} (ranked : IsRank
       let b = visit_notes-weighs (t.rank t.root) [] t.root 0 refl root (omega arith) in
       let c = below-weighs [] t.root refl root in
       omega (arith, a, b, c)
+
+-- a log that is past the limits of an audit is that of a large tree
+pub meets-large : {N : Type 0} (t : SearchTree N) {sound : N → Type 0} → IsRanked sound t.children t.rank → sound t.root → MeetsLimits (seq_log t 0) → IsLarge t
+meets-large t ranked root (inl more) =
+    let weighs = seq_log-weighs t ranked (λ path. 1) root in
+    let entries = total-ones (seq_log t 0) in
+    let nodes = total-ones (tree_paths t) in
+    inl (omega (arith, weighs, entries, nodes, more))
+meets-large t ranked root (inr more) =
+    let weighs = seq_log-weighs t ranked (λ path. length path) root in
+    inr (omega (arith, weighs, more))

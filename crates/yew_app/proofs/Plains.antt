@@ -9,7 +9,7 @@ use Rattle.yew_words.specs.declared.plan.Skeleton.TheVariants.{Sequential}
 use Rattle.yew_words.specs.Word.{Word}
 use Rattle.yew_words.specs.Plans.{Planned, planned, PlanOf}
 use Rattle.yew_words.specs.Offences.{Offending}
-use Rattle.yew_app.specs.Refusals.{Reason, BadUsage, CannotRead, NotInGrammar, TooLong, TooLarge, FullAudit, CannotWrite, NoMemory}
+use Rattle.yew_app.specs.Refusals.{Reason, BadUsage, CannotRead, NotInGrammar, TooLong, TooLarge, FullAudit, TaskPastLimit, CannotWrite, NoMemory}
 use Rattle.yew_app.specs.Runs.{IsPlain, RefusesWords}
 
 -- what the reader of the words says of its answer
@@ -29,6 +29,7 @@ reason-offence words usage reads (NotInGrammar name at kind) none = absurd none
 reason-offence words usage reads (TooLong name) none = absurd none
 reason-offence words usage reads (TooLarge name number limit) none = absurd none
 reason-offence words usage reads (FullAudit worker entries numbers) none = absurd none
+reason-offence words usage reads (TaskPastLimit number) none = absurd none
 reason-offence words usage reads CannotWrite none = absurd none
 reason-offence words usage reads NoMemory none = absurd none
 
@@ -44,6 +45,7 @@ reason-skeleton words plan reads other (NotInGrammar name at kind) none = absurd
 reason-skeleton words plan reads other (TooLong name) none = absurd none
 reason-skeleton words plan reads other (TooLarge name number limit) none = absurd none
 reason-skeleton words plan reads other (FullAudit worker entries numbers) none = absurd none
+reason-skeleton words plan reads other (TaskPastLimit number) none = absurd none
 reason-skeleton words plan reads other CannotWrite none = absurd none
 reason-skeleton words plan reads other NoMemory none = absurd none
 
@@ -57,6 +59,7 @@ no_reason words plan reads sequential (NotInGrammar name at kind) none = none
 no_reason words plan reads sequential (TooLong name) none = none
 no_reason words plan reads sequential (TooLarge name number limit) none = none
 no_reason words plan reads sequential (FullAudit worker entries numbers) none = none
+no_reason words plan reads sequential (TaskPastLimit number) none = none
 no_reason words plan reads sequential CannotWrite none = none
 no_reason words plan reads sequential NoMemory none = none
 

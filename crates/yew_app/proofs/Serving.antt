@@ -1,43 +1,200 @@
--- What is known of the words holds of their plan and its files.
-use Rattle.std.proofs.Common.{◌≡◌, List, Option, Some, None, sym, subst}
-use Rattle.std.specs.Prelude.{IfSome, IsTrue}
+-- What is known of the text of a job, or of why it has none, holds of its plan and of the words.
+use Rattle.std.proofs.Common.{◌≡◌, ℕ, ◌+◌, ◌⊎◌, List, [], ◌∷◌, length, Bool, Option, Some, None, inl, inr, refl, sym, ap, subst, ◌∙◌, arith, length-append}
+use Rattle.std.specs.Prelude.{IfSome, IsSomeAnd, IsTrue}
+use Rattle.std.proofs.lemmas.List.Sums.{sum_by-append, sum_by-cons}
+use Rattle.yew_laws.specs.SearchTree.{SearchTree}
+use Rattle.yew_log.specs.AuditFull.{IsAuditFull, MeetsLimits}
+use Rattle.yew_log.specs.Groups.{sequential}
+use Rattle.yew_log.specs.Notes.{path_of, path_numbers}
+use Rattle.yew_log.specs.Recording.{IsFull}
+use Rattle.yew_log.specs.SeqLog.{seq_log}
+use Rattle.yew_io.specs.Shelf.{File}
+use Rattle.yew_words.specs.declared.plan.Job.{Job}
+use Rattle.yew_words.specs.declared.plan.Job.TheVariants as jobs
+use Rattle.yew_words.specs.declared.plan.Made.{Made}
 use Rattle.yew_words.specs.Word.{Word}
 use Rattle.yew_words.specs.Plans.{Planned, PlanOf}
-use Rattle.yew_io.specs.Shelf.{File}
-use Rattle.yew_app.specs.Refusals.{Reason, BadUsage, CannotRead, NotInGrammar, TooLong, TooLarge, FullAudit, CannotWrite, NoMemory}
-use Rattle.yew_app.specs.Runs.{IsPlain, RefusesFiles, RefusesJob, FillsAudit, MeetsJob, IsFine, IsFineJob, StopsJob, IsCause}
+use Rattle.yew_app.specs.Jobs.{of_job}
+use Rattle.yew_app.specs.MadeTexts.{IsMadeText}
+use Rattle.yew_app.specs.Meanings.{Meaning, known_files, IsOneWay, searched, AnswersFiles, MeetsFiles, IsFineFiles, StopsFiles}
+use Rattle.yew_app.specs.Refusals.{Reason, BadUsage, CannotRead, NotInGrammar, TooLong, TooLarge, FullAudit, TaskPastLimit, CannotWrite, NoMemory, IsFullOrMemory}
+use Rattle.yew_app.specs.Runs.{IsPlain, AnswersJob, RefusesJob, MeetsJob, IsFineJob, StopsJob, RefusesFiles, FillsAudit, IsFine, IsCause}
 
--- a fact of the files where they are told follows from another
-pub map_told : (files : Option (List File)) (P Q : List File → Type 0) → ((told : List File) → P told → Q told) → IfSome files P → IfSome files Q
-map_told None P Q f h = tt
-map_told (Some told) P Q f h = f told h
+-- a log that was full is that of a sequential log past the limits
+full-meets : {N : Type 0} (t : SearchTree N) (entries numbers : ℕ) → IsAuditFull t 0 sequential 1 entries numbers → MeetsLimits (seq_log t 0)
+full-meets t entries numbers f =
+    let next = f.sequential_next refl in
+    let rest = next.0 in
+    let whole = f.full in
+    let l = ap length next.1 ∙ length-append f.notes (f.next ∷ rest) in
+    let n = ap path_numbers next.1 ∙ sum_by-append (λ note. length (path_of note)) f.notes (f.next ∷ rest) in
+    let m = sum_by-cons (λ note. length (path_of note)) f.next rest in
+    past whole l n m
+  where
+    past : IsFull (Some f.notes) (path_of f.next) entries numbers → length (seq_log t 0) ≡ length f.notes + length (f.next ∷ (f.sequential_next refl).0) → path_numbers (seq_log t 0) ≡ path_numbers f.notes + path_numbers (f.next ∷ (f.sequential_next refl).0) → path_numbers (f.next ∷ (f.sequential_next refl).0) ≡ length (path_of f.next) + path_numbers (f.sequential_next refl).0 → MeetsLimits (seq_log t 0)
+    past w l n m =
+        let same : w.notes ≡ f.notes = cc in
+        let a = ap length same in
+        let b = ap path_numbers same in
+        let e = w.entries_are in
+        let k = w.numbers_are in
+        elim w.past [
+          | inl more ↦ inl (omega (arith, more, e, a, l))
+          | inr more ↦ inr (omega (arith, more, k, b, n, m))
+        ]
 
--- a fact of any files holds of those that are told
-pub any_told : (files : Option (List File)) (Q : List File → Type 0) → ((told : List File) → Q told) → IfSome files Q
-any_told None Q f = tt
-any_told (Some told) Q f = f told
+-- the shelf did not fail
+abbrev pub NoFault : Reason → Type 0
+NoFault reason = (name : Word) → reason ≡ CannotRead name → ⊥
+
+module _ {X N : Type 0} (m : Meaning X N) (one : IsOneWay m) (audit : Bool) (told : List File) where
+  -- what the instance of the files says, it says of each
+  same-meets : (a b : X) → m.Reads told a → m.Reads told b → MeetsLimits (seq_log (searched m a) 0) → MeetsLimits (seq_log (searched m b) 0)
+  same-meets a b p q = subst (λ (x : X). MeetsLimits (seq_log (searched m x) 0)) (one.one_instance told a b p q)
+
+  -- files that are refused give no text
+  answered-refused : (report : Bool) (text : List ℕ) (reason : Reason) → AnswersFiles m report audit told text → m.Refuses told reason → ⊥
+  answered-refused report text reason answers refused = one.not_both told answers.0 reason answers.1 refused
+
+  -- and no search whose log is past the limits
+  answered-meets : (report : Bool) (text : List ℕ) → AnswersFiles m report audit told text → IsTrue audit → MeetsFiles m told → ⊥
+  answered-meets report text answers asked meets = answers.2.plain.fits asked (same-meets meets.0 answers.0 meets.1 answers.1 meets.2)
+
+  -- files that are refused stop a run for their reason
+  stopped-refused : (is reason : Reason) → NoFault is → StopsFiles m audit (Some told) is → m.Refuses told reason → (is ≡ reason) ⊎ (is ≡ NoMemory)
+  stopped-refused (CannotRead name) reason none stops refused = absurd (none name refl)
+  stopped-refused (NotInGrammar name at kind) reason none stops refused = inl (one.one_reason told (NotInGrammar name at kind) reason stops.1 refused)
+  stopped-refused (TooLong name) reason none stops refused = inl (one.one_reason told (TooLong name) reason stops.1 refused)
+  stopped-refused (TooLarge name number limit) reason none stops refused = inl (one.one_reason told (TooLarge name number limit) reason stops.1 refused)
+  stopped-refused (FullAudit worker entries numbers) reason none stops refused = absurd (one.not_both told stops.2.0 reason stops.2.1 refused)
+  stopped-refused NoMemory reason none stops refused = inr refl
+  stopped-refused (BadUsage place kind) reason none stops refused = absurd stops
+  stopped-refused CannotWrite reason none stops refused = absurd stops
+  stopped-refused (TaskPastLimit number) reason none stops refused = absurd stops
+
+  -- a search whose log is past the limits stops a run where its audit is full
+  stopped-meets : (is : Reason) → NoFault is → StopsFiles m audit (Some told) is → MeetsFiles m told → IsFullOrMemory is
+  stopped-meets (CannotRead name) none stops meets = absurd (none name refl)
+  stopped-meets (NotInGrammar name at kind) none stops meets = one.not_both told meets.0 (NotInGrammar name at kind) meets.1 stops.1
+  stopped-meets (TooLong name) none stops meets = one.not_both told meets.0 (TooLong name) meets.1 stops.1
+  stopped-meets (TooLarge name number limit) none stops meets = one.not_both told meets.0 (TooLarge name number limit) meets.1 stops.1
+  stopped-meets (FullAudit worker entries numbers) none stops meets = tt
+  stopped-meets NoMemory none stops meets = tt
+  stopped-meets (BadUsage place kind) none stops meets = absurd stops
+  stopped-meets CannotWrite none stops meets = absurd stops
+  stopped-meets (TaskPastLimit number) none stops meets = absurd stops
+
+  -- and where nothing is wrong, want of memory alone stops it
+  stopped-fine : (is : Reason) → NoFault is → StopsFiles m audit (Some told) is → IsFineFiles m audit told → is ≡ NoMemory
+  stopped-fine (CannotRead name) none stops fine = absurd (none name refl)
+  stopped-fine (NotInGrammar name at kind) none stops fine = absurd (one.not_both told fine.0 (NotInGrammar name at kind) fine.1 stops.1)
+  stopped-fine (TooLong name) none stops fine = absurd (one.not_both told fine.0 (TooLong name) fine.1 stops.1)
+  stopped-fine (TooLarge name number limit) none stops fine = absurd (one.not_both told fine.0 (TooLarge name number limit) fine.1 stops.1)
+  stopped-fine (FullAudit worker entries numbers) none stops fine =
+      absurd (fine.2 stops.0 (same-meets stops.2.0 fine.0 stops.2.1 fine.1 (full-meets (searched m stops.2.0) entries numbers stops.2.2)))
+  stopped-fine NoMemory none stops fine = refl
+  stopped-fine (BadUsage place kind) none stops fine = absurd stops
+  stopped-fine CannotWrite none stops fine = absurd stops
+  stopped-fine (TaskPastLimit number) none stops fine = absurd stops
+
+-- three facts of a job together
+pub meet-job : (job : Job) (names : List Word) (plan : Planned) {R : Type 0} (A B C : Made → Type 0) (K L M : (X N : Type 0) → Meaning X N → Type 0)
+    → ((kind : Made) → A kind → B kind → C kind → R) → ((X N : Type 0) (m : Meaning X N) → K X N m → L X N m → M X N m → R)
+    → of_job job names plan A K → of_job job names plan B L → of_job job names plan C M → R
+meet-job jobs.Knapsack (name ∷ []) plan A B C K L M made by a b c = by _ _ _ a b c
+meet-job jobs.Tsp (name ∷ []) plan A B C K L M made by a b c = by _ _ _ a b c
+meet-job jobs.Subgraph (pattern ∷ target ∷ []) plan A B C K L M made by a b c = by _ _ _ a b c
+meet-job jobs.Semigroups [] plan A B C K L M made by a b c = by _ _ _ a b c
+meet-job (jobs.Make kind) [] plan A B C K L M made by a b c = made kind a b c
+meet-job jobs.Knapsack [] plan A B C K L M made by a b c = absurd a
+meet-job jobs.Knapsack (name ∷ second ∷ names) plan A B C K L M made by a b c = absurd a
+meet-job jobs.Tsp [] plan A B C K L M made by a b c = absurd a
+meet-job jobs.Tsp (name ∷ second ∷ names) plan A B C K L M made by a b c = absurd a
+meet-job jobs.Subgraph [] plan A B C K L M made by a b c = absurd a
+meet-job jobs.Subgraph (name ∷ []) plan A B C K L M made by a b c = absurd a
+meet-job jobs.Subgraph (name ∷ second ∷ third ∷ names) plan A B C K L M made by a b c = absurd a
+meet-job jobs.Semigroups (name ∷ names) plan A B C K L M made by a b c = absurd a
+meet-job (jobs.Make kind) (name ∷ names) plan A B C K L M made by a b c = absurd a
 
 module _ (words : List Word) (plan : Planned) (plain : IsPlain words plan) where
   -- why the plan gives no text is a cause
-  pub cause-of : (files : Option (List File)) (reason : Reason) → StopsJob plan.job plan.files plan files reason → IsCause words files reason
-  cause-of files (BadUsage place kind) none = absurd none
+  pub cause-of : (files : Option (List File)) (reason : Reason) → StopsJob plan.job plan.files plan (known_files plan.files files) reason → IsCause words files reason
   cause-of files (CannotRead name) why = record { plan = plan; plain = plain; why = why }
   cause-of files (NotInGrammar name at kind) why = record { plan = plan; plain = plain; why = why }
   cause-of files (TooLong name) why = record { plan = plan; plain = plain; why = why }
   cause-of files (TooLarge name number limit) why = record { plan = plan; plain = plain; why = why }
   cause-of files (FullAudit worker entries numbers) why = record { plan = plan; plain = plain; why = why }
-  cause-of files CannotWrite none = absurd none
+  cause-of files (TaskPastLimit number) why = record { plan = plan; plain = plain; why = why }
   cause-of files NoMemory why = tt
+  cause-of files (BadUsage place kind) why = never why
+    where
+      never : StopsJob plan.job plan.files plan (known_files plan.files files) (BadUsage place kind) → IsCause words files (BadUsage place kind)
+      never why = meet-job plan.job plan.files plan (λ k. BadUsage place kind ≡ NoMemory) (λ k. BadUsage place kind ≡ NoMemory) (λ k. BadUsage place kind ≡ NoMemory)
+          (λ X N m. StopsFiles m plan.audit (known_files plan.files files) (BadUsage place kind)) (λ X N m. StopsFiles m plan.audit (known_files plan.files files) (BadUsage place kind)) (λ X N m. StopsFiles m plan.audit (known_files plan.files files) (BadUsage place kind))
+          (λ k a b c. absurd (cc)) (λ X N m a b c. absurd a) why why why
+  cause-of files CannotWrite why =
+      meet-job plan.job plan.files plan (λ k. CannotWrite ≡ NoMemory) (λ k. CannotWrite ≡ NoMemory) (λ k. CannotWrite ≡ NoMemory)
+      (λ X N m. StopsFiles m plan.audit (known_files plan.files files) CannotWrite) (λ X N m. StopsFiles m plan.audit (known_files plan.files files) CannotWrite) (λ X N m. StopsFiles m plan.audit (known_files plan.files files) CannotWrite)
+      (λ k a b c. absurd (cc)) (λ X N m a b c. absurd a) why why why
 
-  module _ (one : (other : Planned) → PlanOf words other → plan ≡ other) where
-    -- files that are refused are the plan's
-    pub refused-job : (told : List File) (reason : Reason) → RefusesFiles words told reason → RefusesJob plan.job plan.files told reason
-    refused-job told reason refused = subst (λ (p : Planned). RefusesJob p.job p.files told reason) (sym (one refused.plan refused.plain.is_plan)) refused.why
+  module _ (one : (other : Planned) → PlanOf words other → plan ≡ other) (ways : of_job plan.job plan.files plan (λ kind. Unit {0}) (λ X N m. IsOneWay m)) (files : Option (List File)) where
+    abbrev known : Option (List File)
+    known = known_files plan.files files
 
-    -- an audit that is full is the plan's
-    pub fills-job : (told : List File) → FillsAudit words told → IsTrue plan.audit × MeetsJob plan.job plan.files plan told
-    fills-job told fills = subst (λ (p : Planned). IsTrue p.audit × MeetsJob p.job p.files p told) (sym (one fills.plan fills.plain.is_plan)) (fills.asked, fills.meets)
+    -- files that are refused, an audit that is full, and files that are fine are the plan's
+    refused-job : (reason : Reason) → RefusesFiles words files reason → IsSomeAnd known (λ told. RefusesJob plan.job plan.files plan told reason)
+    refused-job reason refused =
+        subst (λ (p : Planned). IsSomeAnd (known_files p.files files) (λ told. RefusesJob p.job p.files p told reason)) (sym (one refused.plan refused.plain.is_plan)) refused.why
 
-    -- and files that are fine are the plan's
-    pub fine-job : (told : List File) → IsFine words told → IsFineJob plan.job plan.files plan told
-    fine-job told fine = subst (λ (p : Planned). IsFineJob p.job p.files p told) (sym (one fine.plan fine.plain.is_plan)) fine.fine
+    fills-job : FillsAudit words files → IsTrue plan.audit × IsSomeAnd known (MeetsJob plan.job plan.files plan)
+    fills-job fills =
+        subst (λ (p : Planned). IsTrue p.audit × IsSomeAnd (known_files p.files files) (MeetsJob p.job p.files p)) (sym (one fills.plan fills.plain.is_plan)) (fills.asked, fills.meets)
+
+    fine-job : IsFine words files → IsSomeAnd known (IsFineJob plan.job plan.files plan)
+    fine-job fine =
+        subst (λ (p : Planned). IsSomeAnd (known_files p.files files) (IsFineJob p.job p.files p)) (sym (one fine.plan fine.plain.is_plan)) fine.fine
+
+    module _ (text : List ℕ) (answers : IfSome known (λ told. AnswersJob plan.job plan.files plan told text)) where
+      abbrev Made_text : Made → Type 0
+      Made_text kind = IsMadeText kind plan.solve plan.seed plan.size text
+
+      pub answers-not_refused : (reason : Reason) → RefusesFiles words files reason → ⊥
+      answers-not_refused reason refused = at known answers (refused-job reason refused)
+        where
+          at : (k : Option (List File)) → IfSome k (λ told. AnswersJob plan.job plan.files plan told text) → IsSomeAnd k (λ told. RefusesJob plan.job plan.files plan told reason) → ⊥
+          at None a r = r
+          at (Some told) a r = meet-job plan.job plan.files plan (λ kind. Unit {0}) Made_text (λ kind. ⊥) (λ X N m. IsOneWay m) (λ X N m. AnswersFiles m plan.report plan.audit told text) (λ X N m. m.Refuses told reason)
+              (λ kind w b c. c) (λ X N m w b c. answered-refused m w plan.audit told plan.report text reason b c) ways a r
+
+      pub answers-not_full : FillsAudit words files → ⊥
+      answers-not_full fills = let f = fills-job fills in at known answers f.0 f.1
+        where
+          at : (k : Option (List File)) → IfSome k (λ told. AnswersJob plan.job plan.files plan told text) → IsTrue plan.audit → IsSomeAnd k (MeetsJob plan.job plan.files plan) → ⊥
+          at None a asked r = r
+          at (Some told) a asked r = meet-job plan.job plan.files plan (λ kind. Unit {0}) Made_text (λ kind. ⊥) (λ X N m. IsOneWay m) (λ X N m. AnswersFiles m plan.report plan.audit told text) (λ X N m. MeetsFiles m told)
+              (λ kind w b c. c) (λ X N m w b c. answered-meets m w plan.audit told plan.report text b asked c) ways a r
+
+    module _ (is : Reason) (none : NoFault is) (stops : StopsJob plan.job plan.files plan known is) where
+      pub stops-refused : (reason : Reason) → RefusesFiles words files reason → (is ≡ reason) ⊎ (is ≡ NoMemory)
+      stops-refused reason refused = at known stops (refused-job reason refused)
+        where
+          at : (k : Option (List File)) → StopsJob plan.job plan.files plan k is → IsSomeAnd k (λ told. RefusesJob plan.job plan.files plan told reason) → (is ≡ reason) ⊎ (is ≡ NoMemory)
+          at None s r = absurd r
+          at (Some told) s r = meet-job plan.job plan.files plan (λ kind. Unit {0}) (λ kind. is ≡ NoMemory) (λ kind. ⊥) (λ X N m. IsOneWay m) (λ X N m. StopsFiles m plan.audit (Some told) is) (λ X N m. m.Refuses told reason)
+              (λ kind w b c. inr b) (λ X N m w b c. stopped-refused m w plan.audit told is reason none b c) ways s r
+
+      pub stops-full : FillsAudit words files → IsFullOrMemory is
+      stops-full fills = at known stops (fills-job fills).1
+        where
+          at : (k : Option (List File)) → StopsJob plan.job plan.files plan k is → IsSomeAnd k (MeetsJob plan.job plan.files plan) → IsFullOrMemory is
+          at None s r = absurd r
+          at (Some told) s r = meet-job plan.job plan.files plan (λ kind. Unit {0}) (λ kind. is ≡ NoMemory) (λ kind. ⊥) (λ X N m. IsOneWay m) (λ X N m. StopsFiles m plan.audit (Some told) is) (λ X N m. MeetsFiles m told)
+              (λ kind w b c. absurd c) (λ X N m w b c. stopped-meets m w plan.audit told is none b c) ways s r
+
+      pub stops-fine : IsFine words files → is ≡ NoMemory
+      stops-fine fine = at known stops (fine-job fine)
+        where
+          at : (k : Option (List File)) → StopsJob plan.job plan.files plan k is → IsSomeAnd k (IsFineJob plan.job plan.files plan) → is ≡ NoMemory
+          at None s r = absurd r
+          at (Some told) s r = meet-job plan.job plan.files plan (λ kind. Unit {0}) (λ kind. is ≡ NoMemory) (λ kind. Unit {0}) (λ X N m. IsOneWay m) (λ X N m. StopsFiles m plan.audit (Some told) is) (λ X N m. IsFineFiles m plan.audit told)
+              (λ kind w b c. b) (λ X N m w b c. stopped-fine m w plan.audit told is none b c) ways s r

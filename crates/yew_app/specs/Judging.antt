@@ -3,6 +3,8 @@ use Rattle.std.specs.Prelude.{◌≡◌, ℕ, ◌<◌, ◌≤◌, ◌^◌, List,
 use Rattle.yew_io.specs.Shelf.{File, bytes_of}
 use Rattle.yew_io.specs.Reading.{IsLonger}
 use Rattle.yew_text.specs.declared.text.TextKind.{TextKind}
+use Rattle.yew_text.specs.declared.text.FileEnd.{FileEnd}
+use Rattle.yew_text.specs.declared.text.FileEnd.TheVariants as ends
 use Rattle.yew_app.specs.Refusals.{Reason, CannotRead, NotInGrammar, TooLong, TooLarge, NoMemory}
 
 -- a kind of file: these bytes are of it and within its limits, and this is what they say
@@ -22,6 +24,12 @@ module _ (IsOffence : List ℕ → TextKind → ℕ → Type 0) (IsPast : List �
   RefusesBytes name bytes (NotInGrammar file line kind) = (file ≡ name) × (length bytes ≤ 2 ^ 24) × IsOffence bytes kind line
   RefusesBytes name bytes (TooLarge file number limit) = (file ≡ name) × (length bytes ≤ 2 ^ 24) × IsPast bytes number limit
   RefusesBytes name bytes _ = ⊥
+
+  -- the end of reading is that of these bytes
+  abbrev pub IsEndOf : List ℕ → FileEnd → Type 0
+  IsEndOf bytes (ends.Refused fault) = IsOffence bytes fault.kind fault.line
+  IsEndOf bytes (ends.TooLarge number limit) = IsPast bytes number limit
+  IsEndOf bytes ends.Memory = Unit {0}
 
   -- the file of this name is there, and is refused for this reason
   pub record IsRefusedFile (told : List File) (name : List ℕ) (reason : Reason) : Type 0 where

@@ -1,12 +1,15 @@
+pub mod Jobs
 pub mod Judging
 pub mod Knapsacks
 pub mod MadeTexts
+pub mod Meanings
 pub mod Outcomes
 pub mod Reasons
 pub mod Refusals
 pub mod Runs
 pub mod Semigroups
 pub mod ShortestTours
+pub mod Solutions
 pub mod Stops
 pub mod Subgraphs
 pub mod Texts

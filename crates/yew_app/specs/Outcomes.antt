@@ -1,5 +1,5 @@
 -- What a run leaves outside: the texts that it wrote, and its status.
-use Rattle.std.specs.Prelude.{◌≡◌, ◌⊎◌, ℕ, List, Bool, true, Option, Some, IfSome}
+use Rattle.std.specs.Prelude.{◌≡◌, ◌⊎◌, ℕ, List, Bool, true, Option, Some}
 use Rattle.yew_words.specs.Word.{Word}
 use Rattle.yew_io.specs.Faults.{Rose}
 use Rattle.yew_io.specs.Shelf.{File}
@@ -73,18 +73,18 @@ IsRefused words before after status = (reason : Reason) × EndsFor words before 
 abbrev pub SaysWords : List Word → Outside → Outside → ℕ → Type 0
 SaysWords words before after status = (reason : Reason) → RefusesWords words reason → Says before after status reason
 
--- where no fault rises at the shelf and the files are told and refused, it says so, unless memory runs out
+-- where no fault rises at the shelf and the files are known and refused, it says so, unless memory runs out
 abbrev pub SaysFiles : List Word → Outside → Outside → ℕ → Type 0
-SaysFiles words before after status = ¬ Rose before.read_faults after.read_faults → IfSome before.files (λ told.
-    (reason : Reason) → RefusesFiles words told reason → Says before after status reason ⊎ (status ≡ 6))
+SaysFiles words before after status = ¬ Rose before.read_faults after.read_faults →
+    (reason : Reason) → RefusesFiles words before.files reason → Says before after status reason ⊎ (status ≡ 6)
 
--- where no fault rises at the shelf, its files are told and read, and the search has more than the audit that is asked for
+-- where no fault rises at the shelf, the files are known and read, and the search has more than the audit that is asked for
 -- has room for, it says where the audit was full, unless memory runs out
 abbrev pub SaysAudit : List Word → Outside → Outside → ℕ → Type 0
-SaysAudit words before after status = ¬ Rose before.read_faults after.read_faults → IfSome before.files (λ told.
-    FillsAudit words told → ((entries : ℕ) × (numbers : ℕ) × Says before after status (FullAudit 1 entries numbers)) ⊎ (status ≡ 6))
+SaysAudit words before after status = ¬ Rose before.read_faults after.read_faults → FillsAudit words before.files →
+    ((entries : ℕ) × (numbers : ℕ) × Says before after status (FullAudit 1 entries numbers)) ⊎ (status ≡ 6)
 
--- where no fault rises and nothing is wrong with the words and the files, it answers, unless memory runs out
+-- where no fault rises and nothing is wrong with the words and the files, which are known, it answers, unless memory runs out
 abbrev pub IsComplete : List Word → Outside → Outside → ℕ → Type 0
-IsComplete words before after status = ¬ Rose before.read_faults after.read_faults → ¬ Rose before.write_faults after.write_faults → IfSome before.files (λ told.
-    IsFine words told → (status ≡ 0) ⊎ (status ≡ 6))
+IsComplete words before after status = ¬ Rose before.read_faults after.read_faults → ¬ Rose before.write_faults after.write_faults →
+    IsFine words before.files → (status ≡ 0) ⊎ (status ≡ 6)

@@ -6,7 +6,7 @@ use Rattle.yew_app.specs.declared.refusal.Refusal.{Refusal}
 use Rattle.yew_app.specs.declared.refusal.Refusal.TheVariants as refusals
 use Rattle.yew_app.specs.declared.refusal.Piece.{Piece}
 use Rattle.yew_app.specs.declared.refusal.Piece.TheVariants as pieces
-use Rattle.yew_app.specs.Refusals.{Reason, BadUsage, CannotRead, NotInGrammar, TooLong, TooLarge, CannotWrite, NoMemory, FullAudit}
+use Rattle.yew_app.specs.Refusals.{Reason, BadUsage, CannotRead, NotInGrammar, TooLong, TooLarge, CannotWrite, NoMemory, FullAudit, TaskPastLimit}
 
 abbrev pub reason_of : Refusal → Reason
 reason_of (refusals.Usage usage) = BadUsage usage.place usage.kind
@@ -17,6 +17,7 @@ reason_of (refusals.TooLarge name number limit) = TooLarge name.now number limit
 reason_of refusals.WriteFault = CannotWrite
 reason_of refusals.Memory = NoMemory
 reason_of (refusals.AuditFull worker entries numbers) = FullAudit worker entries numbers
+reason_of (refusals.TaskPastLimit number) = TaskPastLimit number
 
 -- why a file of this name gives nothing, where its bytes were read
 abbrev pub reason_of_end : List ℕ → FileEnd → Reason

@@ -15,6 +15,7 @@ pub data Reason : Type 0 where
   CannotWrite : Reason
   NoMemory : Reason
   FullAudit : (worker entries numbers : ℕ) → Reason
+  TaskPastLimit : (number : ℕ) → Reason
 
 abbrev pub usage_words : UsageKind → List ℕ
 usage_words usage.Missing = codes "missing"
@@ -48,6 +49,7 @@ fault_line CannotWrite = line_of (codes "yew: " ∷ codes "write fault" ∷ [])
 fault_line NoMemory = line_of (codes "yew: " ∷ codes "out of memory" ∷ [])
 fault_line (FullAudit worker entries numbers) =
     line_of (codes "yew: worker " ∷ decimal worker ∷ codes ": audit full at " ∷ decimal entries ∷ codes " entries and " ∷ decimal numbers ∷ codes " numbers" ∷ [])
+fault_line (TaskPastLimit number) = line_of (codes "yew: task number " ∷ decimal number ∷ codes " is past the limit" ∷ [])
 
 abbrev pub status_of : Reason → ℕ
 status_of (BadUsage place kind) = 1
@@ -58,6 +60,7 @@ status_of (TooLarge name number limit) = 4
 status_of CannotWrite = 5
 status_of NoMemory = 6
 status_of (FullAudit worker entries numbers) = 4
+status_of (TaskPastLimit number) = 4
 
 -- an audit is full, or memory ran out
 abbrev pub IsFullOrMemory : Reason → Type 0

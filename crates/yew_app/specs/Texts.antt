@@ -9,6 +9,10 @@ use Rattle.yew_log.specs.WholeSearch.{AreLogs, tail_text}
 use Rattle.yew_walk.specs.declared.fault.SearchFault.{SearchFault}
 use Rattle.yew_walk.specs.declared.fault.SearchFault.TheVariants.{Memory, AuditFull, TooManyTasks}
 
+-- the gap of a search of one worker: what is no better than what is held is cut
+abbrev pub plain_gap : ℕ
+plain_gap = 0
+
 module _ {N : Type 0} (t : SearchTree N) where
   -- the node at the first best path, if there is one
   abbrev pub first_node : Option N
@@ -17,12 +21,12 @@ module _ {N : Type 0} (t : SearchTree N) where
   -- the lines of an answer, which are those of the first best node of the tree, and then the report and the audit, each
   -- where it is asked for, of the one sequential log, which says of every node of the tree what became of it
   pub record IsPlainText (report audit : Bool) (lines : Option N → List ℕ) (text : List ℕ) : Type 0 where
-    pub text_is : text ≡ lines first_node ++ tail_text report audit 1 (seq_log t 0 ∷ [])
-    pub logs : AreLogs t 0 sequential 1 (seq_log t 0 ∷ []) first_node
-    pub fits : IsTrue audit → ¬ MeetsLimits (seq_log t 0)
+    pub text_is : text ≡ lines first_node ++ tail_text report audit 1 (seq_log t plain_gap ∷ [])
+    pub logs : AreLogs t plain_gap sequential 1 (seq_log t plain_gap ∷ []) first_node
+    pub fits : IsTrue audit → ¬ MeetsLimits (seq_log t plain_gap)
 
   -- why a search gives no text: memory ran out, or the audit that is asked for has no room for the next entry
   abbrev pub StopsSearch : Bool → SearchFault → Type 0
   StopsSearch audit Memory = Unit {0}
-  StopsSearch audit (AuditFull worker entries numbers) = IsTrue audit × ((worker ≡ 1) × IsAuditFull t 0 sequential 1 entries numbers)
+  StopsSearch audit (AuditFull worker entries numbers) = IsTrue audit × ((worker ≡ 1) × IsAuditFull t plain_gap sequential 1 entries numbers)
   StopsSearch audit (TooManyTasks number) = ⊥

@@ -6,15 +6,17 @@
 //! cause.
 #![tactic(auto)]
 
-mod best;
+mod job;
 mod knapsack;
+pub mod laws;
 mod made;
-mod nodes;
 mod plan;
 mod reading;
 mod refusal;
 mod run;
+mod search;
 mod semigroups;
+mod solution;
 mod solve;
 mod subgraph;
 mod tail;

@@ -11,9 +11,9 @@ ghost use Rattle.yew_text.specs.declared.text.FileEnd.TheVariants.{Memory as NoM
 ghost use Rattle.yew_tsp.specs.Nodes.{IsNode as IsTourNode, root_of as root_of_tours};
 ghost use Rattle.yew_app.specs.MadeTexts.{IsMadeText, IsSolvedKnapsack, IsSolvedTours, sequential_totals, solved_lines as four_lines};
 
-use crate::best::best_of;
 use crate::tail::push_count_line;
 use std::alloc::Global;
+use yew_kinds::{Answer, Kind, NoTally};
 use yew_knap::Knapsack;
 use yew_knap::laws::tree_packs;
 use yew_laws::{Memory, Problem};
@@ -24,7 +24,7 @@ use yew_make::make_text;
 use yew_text::FileEnd;
 use yew_tsp::Tours;
 use yew_tsp::laws::tree_tours;
-use yew_walk::SearchFault;
+use yew_walk::{Found, SearchFault, search_plain};
 use yew_words::Made;
 
 /// The text of the instance of this kind, seed and size, or of its solution where it is to be solved. No words ask for a
@@ -133,11 +133,22 @@ fn solve_made<P: Problem>(alloc: Global, problem: &P) -> Result<Solved, Memory>
     ensures worth { IfOk result (λ solved. solved.worth ≡ greatest (search_tree P.Problem problem.now)) }
     ensures totals { IfOk result (λ solved. solved.totals ≡ sequential_totals (search_tree P.Problem problem.now)) }
 {
-    match best_of::<P, Counts>(alloc, problem) {
-        Ok(found) => Ok(Solved {
-            worth: found.worth,
-            totals: found.logs[0].totals(),
+    match search_plain::<_, _, Counts>(alloc, problem, Kind::Best, &NoTally) {
+        Ok(
+            Found {
+                answer: Answer::Best { worth, .. },
+                logs,
+            },
+        ) => Ok(Solved {
+            worth,
+            totals: logs[0].totals(),
         }),
+        Ok(
+            Found {
+                answer: Answer::Count(_) | Answer::Reach(_),
+                ..
+            },
+        ) => unreachable!(),
         Err(SearchFault::Memory) => Err(Memory),
         Err(SearchFault::AuditFull { .. } | SearchFault::TooManyTasks { .. }) => unreachable!(),
     }

@@ -38,6 +38,10 @@ pub enum Refusal<'a> {
         entries: u64,
         numbers: u64,
     },
+    /// The tasks of a frontier have more numbers than there are.
+    TaskPastLimit {
+        number: u64,
+    },
 }
 
 /// A piece of a line.
@@ -60,7 +64,8 @@ impl<'a> Refusal<'a> {
             Refusal::Usage(_) => 1,
             Refusal::ReadFault(_) => 2,
             Refusal::NotInGrammar(_, _) => 3,
-            Refusal::TooLong(_) | Refusal::TooLarge { .. } | Refusal::AuditFull { .. } => 4,
+            Refusal::TooLong(_) | Refusal::TooLarge { .. } => 4,
+            Refusal::AuditFull { .. } | Refusal::TaskPastLimit { .. } => 4,
             Refusal::WriteFault => 5,
             Refusal::Memory => 6,
         }
@@ -190,6 +195,20 @@ fn pieces_of<'a>(refusal: Refusal<'a>) -> [Piece<'a>; 8]
             entries,
             numbers,
         } => full_line(worker, entries, numbers),
+        Refusal::TaskPastLimit { number } => {
+            let task = Piece::Text("yew: task number ");
+            let past = Piece::Text(" is past the limit");
+            [
+                task,
+                Piece::Number(number),
+                past,
+                end,
+                none,
+                none,
+                none,
+                none,
+            ]
+        }
     }
 }
 

@@ -1,6 +1,6 @@
 //! The top call: from the words, the files and the sinks to the status.
 
-ghost use Rattle.std.specs.Prelude.{◌≡◌, ◌≢◌, ◌≤◌, ◌⊎◌, true, List, ℕ, IfSome, IfOk, IfErr, IsErrAnd, IsOk, Some};
+ghost use Rattle.std.specs.Prelude.{◌≡◌, ◌≢◌, ◌≤◌, ◌⊎◌, true, List, ℕ, IfOk, IfErr, IsErrAnd, IsOk, Some};
 ghost use Rattle.yew_io.specs.Faults.{Rose};
 ghost use Rattle.yew_io.specs.Sink.{Appends, AppendsPrefix};
 ghost use Rattle.yew_words.specs.Word.{texts};
@@ -9,6 +9,7 @@ ghost use Rattle.yew_app.specs.Reasons.{reason_of};
 ghost use Rattle.yew_app.specs.Refusals.{Reason, CannotRead, NoMemory, IsFullOrMemory, fault_line, status_of};
 ghost use Rattle.yew_app.specs.Runs.{Answers, RefusesWords, RefusesFiles, FillsAudit, IsFine, IsCause};
 
+use crate::laws::files_have_one_way;
 use crate::plan::read_plain;
 use crate::refusal::{Refusal, write_fault_line};
 use crate::solve::solve;
@@ -26,15 +27,16 @@ fn text_of<'a, S: Shelf<'a>>(
     ensures read_fault { (name : List ℕ) → IsErrAnd result (λ refusal. reason_of refusal ≡ CannotRead name) →
         Rose (S.faults shelf.old) (S.faults shelf.new) × (S.failed shelf.new ≡ true) × (S.name shelf.new ≡ Some name) }
     ensures words_refused { (reason : Reason) → RefusesWords (texts words.now) reason → IsErrAnd result (λ refusal. reason_of refusal ≡ reason) }
-    ensures files_refused { ¬ Rose (S.faults shelf.old) (S.faults shelf.new) → IfSome (S.files shelf.old) (λ told.
-        (reason : Reason) → RefusesFiles (texts words.now) told reason → IsErrAnd result (λ refusal. (reason_of refusal ≡ reason) ⊎ (reason_of refusal ≡ NoMemory))) }
-    ensures audit_full { ¬ Rose (S.faults shelf.old) (S.faults shelf.new) → IfSome (S.files shelf.old) (λ told.
-        FillsAudit (texts words.now) told → IsErrAnd result (λ refusal. IsFullOrMemory (reason_of refusal))) }
-    ensures fine { ¬ Rose (S.faults shelf.old) (S.faults shelf.new) → IfSome (S.files shelf.old) (λ told.
-        IsFine (texts words.now) told → IsOk result ⊎ IsErrAnd result (λ refusal. reason_of refusal ≡ NoMemory)) }
+    ensures files_refused { ¬ Rose (S.faults shelf.old) (S.faults shelf.new) → (reason : Reason) → RefusesFiles (texts words.now) (S.files shelf.old) reason →
+        IsErrAnd result (λ refusal. (reason_of refusal ≡ reason) ⊎ (reason_of refusal ≡ NoMemory)) }
+    ensures audit_full { ¬ Rose (S.faults shelf.old) (S.faults shelf.new) → FillsAudit (texts words.now) (S.files shelf.old) →
+        IsErrAnd result (λ refusal. IsFullOrMemory (reason_of refusal)) }
+    ensures fine { ¬ Rose (S.faults shelf.old) (S.faults shelf.new) → IsFine (texts words.now) (S.files shelf.old) →
+        IsOk result ⊎ IsErrAnd result (λ refusal. reason_of refusal ≡ NoMemory) }
     ensures files { S.files shelf.new ≡ S.files shelf.old }
     ensures counted { S.faults shelf.old ≤ S.faults shelf.new }
 {
+    files_have_one_way();
     let plan = match read_plain(words) {
         Ok(plan) => plan,
         Err(refusal) => return Err(refusal),

@@ -35,12 +35,12 @@ pub(crate) fn push_count_line(out: &mut Vec<u8>, word: &[u8], count: u64) -> Res
     push_line_end(out)
 }
 
-/// Appends the report of one worker.
-pub(crate) fn push_report(out: &mut Vec<u8>, totals: &Totals) -> Result<(), Memory>
-    ensures { OnOk result (out.new.items ≡ out.old.items ++ report_text 1 totals.now) }
+/// Appends the report of this number of workers, whose logs have these totals together.
+pub(crate) fn push_report(out: &mut Vec<u8>, workers: u32, totals: &Totals) -> Result<(), Memory>
+    ensures { OnOk result (out.new.items ≡ out.old.items ++ report_text workers totals.now) }
 {
     push_text(out, b"workers")?;
-    push_spaced(out, 1)?;
+    push_spaced(out, workers as u64)?;
     push_line_end(out)?;
     push_count_line(out, b"taken ", totals.taken)?;
     push_count_line(out, b"spawned ", totals.spawned)?;
@@ -58,7 +58,7 @@ pub(crate) fn text_with_counts(answered: Answered<Counts>, report: bool) -> Resu
     let Answered { lines, logs } = answered;
     let mut text = lines;
     if report {
-        push_report(&mut text, &logs[0].totals())?;
+        push_report(&mut text, 1, &logs[0].totals())?;
     }
     Ok(text)
 }
@@ -76,7 +76,7 @@ pub(crate) fn text_with_audit(
     let Answered { lines, logs } = answered;
     let mut text = lines;
     if report {
-        push_report(&mut text, &logs[0].totals())?;
+        push_report(&mut text, 1, &logs[0].totals())?;
     }
     let audit = audit_text(alloc, &logs)?;
     push_text(&mut text, &audit)?;

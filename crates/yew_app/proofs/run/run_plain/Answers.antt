@@ -1,19 +1,17 @@
-use Rattle.std.proofs.Common.{◌≡◌, ◌⊎◌, refl, subst, ap, ◌∙◌, inl, inr, ⊎_elim}
+use Rattle.std.proofs.Common.{◌⊎◌, refl, subst, ap, ◌∙◌, inl, inr, ⊎_elim}
 use Rattle.yew_words.specs.Word.{texts}
 use Rattle.yew_app.specs.Reasons.{reason_of}
-use Rattle.yew_app.specs.Refusals.{Reason, NoMemory, CannotWrite, IsFullOrMemory, status_of}
-use Rattle.yew_app.specs.Runs.{RefusesFiles, FillsAudit}
+use Rattle.yew_app.specs.Refusals.{CannotWrite, status_of}
 use Rattle.yew_app.specs.Outcomes.{outside, Says}
 use Rattle.yew_app.proofs.Causes.{has-cause}
 use Rattle.yew_app.proofs.FullAudits.{full-says}
-use Rattle.yew_app.proofs.Serving.{map_told}
 use Rattle.yew_app.proofs.run.run_plain.Goals as goal
 
 pub returns-in-Ok-write_whole-clause-files_refused : goal.returns-in-Ok-write_whole-clause-files_refused
-returns-in-Ok-write_whole-clause-files_refused g c = λ no_fault.
-    map_told (g.S.Shelf.files c.args.shelf.now)
-    (λ told. (reason : Reason) → RefusesFiles (texts c.args.words.now) told reason → ⊥) _
-    (λ told none reason refused. absurd (none reason refused)) (c.in-Ok.ensures.files_refused no_fault)
+returns-in-Ok-write_whole-clause-files_refused g c = λ no_fault reason refused. absurd (c.in-Ok.ensures.files_refused no_fault reason refused)
+
+pub returns-in-Ok-clause-files_refused : goal.returns-in-Ok-clause-files_refused
+returns-in-Ok-clause-files_refused g c = λ no_fault reason refused. absurd (c.in-Ok.ensures.files_refused no_fault reason refused)
 
 pub returns-in-Ok-clause-refused : goal.returns-in-Ok-clause-refused
 returns-in-Ok-clause-refused g c = λ not_zero. (
@@ -29,12 +27,6 @@ returns-in-Ok-clause-refused g c = λ not_zero. (
   },
 )
 
-pub returns-in-Ok-clause-files_refused : goal.returns-in-Ok-clause-files_refused
-returns-in-Ok-clause-files_refused g c = λ no_fault.
-    map_told (g.S.Shelf.files c.args.shelf.now)
-    (λ told. (reason : Reason) → RefusesFiles (texts c.args.words.now) told reason → ⊥) _
-    (λ told none reason refused. absurd (none reason refused)) (c.in-Ok.ensures.files_refused no_fault)
-
 pub returns-clause-files_refused : goal.returns-clause-files_refused
 returns-clause-files_refused g c = λ no_fault.
     let reason_is = reason_of c.in-Err.refusal in
@@ -42,14 +34,10 @@ returns-clause-files_refused g c = λ no_fault.
     let after = outside g.S.Shelf g.K.Sink g.E.Sink c.text_of.new.shelf c.args.out.now c.refuse-in-Err.new.sink in
     let status = c.refuse-in-Err.result in
     let says : Says before after status reason_is = record { status_is = c.refuse-in-Err.ensures.status; prefix = c.refuse-in-Err.ensures.prefix; whole = c.refuse-in-Err.ensures.whole } in
-    map_told (g.S.Shelf.files c.args.shelf.now)
-    (λ told. (reason : Reason) → RefusesFiles (texts c.args.words.now) told reason → (reason_is ≡ reason) ⊎ (reason_is ≡ NoMemory))
-    (λ told. (reason : Reason) → RefusesFiles (texts c.args.words.now) told reason → Says before after status reason ⊎ (status ≡ 6))
-    (λ told each reason refused. ⊎_elim
+    λ reason refused. ⊎_elim
     (λ same. inl (subst (Says before after status) same says))
     (λ none. inr (says.status_is ∙ ap status_of none))
-    (each reason refused))
-    (c.in-Err.ensures.files_refused no_fault)
+    (c.in-Err.ensures.files_refused no_fault reason refused)
 
 pub returns-clause-refused : goal.returns-clause-refused
 returns-clause-refused g c = λ not_zero. (
@@ -64,25 +52,10 @@ returns-clause-refused g c = λ not_zero. (
   },
 )
 
-pub returns-in-Ok-write_whole-clause-audit_full : goal.returns-in-Ok-write_whole-clause-audit_full
-returns-in-Ok-write_whole-clause-audit_full g c = λ no_fault.
-    map_told (g.S.Shelf.files c.args.shelf.now)
-    (λ told. FillsAudit (texts c.args.words.now) told → ⊥) _
-    (λ told none fills. absurd (none fills)) (c.in-Ok.ensures.audit_full no_fault)
-
-pub returns-in-Ok-clause-audit_full : goal.returns-in-Ok-clause-audit_full
-returns-in-Ok-clause-audit_full g c = λ no_fault.
-    map_told (g.S.Shelf.files c.args.shelf.now)
-    (λ told. FillsAudit (texts c.args.words.now) told → ⊥) _
-    (λ told none fills. absurd (none fills)) (c.in-Ok.ensures.audit_full no_fault)
-
 pub returns-clause-audit_full : goal.returns-clause-audit_full
 returns-clause-audit_full g c = λ no_fault.
     let reason_is = reason_of c.in-Err.refusal in
     let before = outside g.S.Shelf g.K.Sink g.E.Sink c.args.shelf.now c.args.out.now c.args.err.now in
     let after = outside g.S.Shelf g.K.Sink g.E.Sink c.text_of.new.shelf c.args.out.now c.refuse-in-Err.new.sink in
     let says : Says before after c.refuse-in-Err.result reason_is = record { status_is = c.refuse-in-Err.ensures.status; prefix = c.refuse-in-Err.ensures.prefix; whole = c.refuse-in-Err.ensures.whole } in
-    map_told (g.S.Shelf.files c.args.shelf.now)
-    (λ told. FillsAudit (texts c.args.words.now) told → IsFullOrMemory reason_is) _
-    (λ told full fills. full-says (texts c.args.words.now) (g.S.Shelf.files c.args.shelf.now) before after c.refuse-in-Err.result reason_is (full fills) c.in-Err.ensures.cause says)
-    (c.in-Err.ensures.audit_full no_fault)
+    λ fills. full-says (texts c.args.words.now) (g.S.Shelf.files c.args.shelf.now) before after c.refuse-in-Err.result reason_is (c.in-Err.ensures.audit_full no_fault fills) c.in-Err.ensures.cause says
