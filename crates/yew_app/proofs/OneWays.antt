@@ -11,6 +11,7 @@ use Rattle.yew_semi.specs.declared.semigroups.Semigroups.{Semigroups}
 use Rattle.yew_tsp.specs.Files as tsp
 use Rattle.yew_words.specs.declared.plan.Job.{Job}
 use Rattle.yew_words.specs.declared.plan.Job.TheVariants as jobs
+use Rattle.yew_words.specs.declared.plan.Made.TheVariants as made
 use Rattle.yew_words.specs.Plans.{Planned}
 use Rattle.yew_words.specs.Ranges.{file_count_of}
 use Rattle.yew_words.specs.Word.{Word}
@@ -109,4 +110,6 @@ job-one_way knap tsp lad jobs.Subgraph (name ∷ second ∷ third ∷ names) pla
 job-one_way knap tsp lad jobs.Semigroups [] plan e = semigroups-one_way plan.genus
 job-one_way knap tsp lad jobs.Semigroups (name ∷ names) plan e = absurd (omega (arith, e))
 job-one_way knap tsp lad (jobs.Make kind) [] plan e = tt
-job-one_way knap tsp lad (jobs.Make kind) (name ∷ names) plan e = absurd (omega (arith, e))
+job-one_way knap tsp lad (jobs.Make made.Knapsack) (name ∷ names) plan e = absurd (omega (arith, e))
+job-one_way knap tsp lad (jobs.Make made.Tsp) (name ∷ names) plan e = absurd (omega (arith, e))
+job-one_way knap tsp lad (jobs.Make made.Lad) (name ∷ names) plan e = absurd (omega (arith, e))
