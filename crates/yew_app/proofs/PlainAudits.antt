@@ -1,8 +1,9 @@
 -- The one log of a sequential search is the logs of a whole search, and it fits where the tree is not large.
-use Rattle.std.proofs.Common.{◌≡◌, ℕ, zero, suc, ◌+◌, ◌*◌, ◌≤◌, ◌<◌, ◌⊎◌, inl, inr, List, [], ◌∷◌, ◌++◌, max, length, drop, Bool, true, false, Option, Some, None, nat_le, nat_lt, if◌then◌else◌, refl, ap, sym, subst, ◌∙◌, append-nil, arith, leb-true, leb-false}
+use Rattle.std.proofs.Common.{◌≡◌, ◌≢◌, ℕ, zero, suc, ◌+◌, ◌*◌, ◌≤◌, ◌<◌, ◌⊎◌, inl, inr, List, [], ◌∷◌, ◌++◌, max, length, drop, Bool, true, false, Option, Some, None, nat_le, nat_lt, if◌then◌else◌, refl, ap, sym, subst, ◌∙◌, append-nil, arith, leb-true, leb-false}
 use Rattle.std.specs.Prelude.{IfSome, Contains, option_and_then}
 use Rattle.std.specs.List.{AllByRecursion, flat_map, sum_by}
-use Rattle.std.proofs.lemmas.List.Elements.{Contains-append_left}
+use Rattle.std.proofs.lemmas.List.Elements.{Contains-append_left, Contains-append_right}
+use Rattle.std.proofs.lemmas.Bool.Decides.{nat_tests}
 use Rattle.std.proofs.lemmas.List.Sums.{sum_by-append, sum_by-cons}
 use Rattle.yew_laws.specs.Bag.{SameBag}
 use Rattle.yew_laws.specs.Cover.{Cover}
@@ -21,7 +22,7 @@ use Rattle.yew_log.specs.Items.{in_turn}
 use Rattle.yew_log.specs.Notes.{Note, taken, visited, cut, spawned, handed, ended, Judgement, path_of, visits, cuts, values, maximum, judgement_in, taken_paths, sent_paths, visited_paths, cut_paths}
 use Rattle.yew_log.specs.Places.{AtEach}
 use Rattle.yew_log.specs.SeqLog.{visited_worth, visit_notes, seq_log}
-use Rattle.yew_log.specs.WholeSearch.{AreLogs, IsBestVisit, joined}
+use Rattle.yew_log.specs.WholeSearch.{AreLogs, IsBestVisit, IsFirstBest, IsTail, IsFirstTail, tail_text, joined}
 use Rattle.yew_log.proofs.Growth.{worths-append}
 use Rattle.yew_log.proofs.Places.{AtEach-weaker}
 use Rattle.yew_log.proofs.SeqLaws.{Exact, Part, visit-part}
@@ -89,27 +90,46 @@ all-attained before notes exact =
 abbrev incumbent_at : Judgement → Incumbent
 incumbent_at visit = record { worth = visit.value; path = Some visit.path }
 
--- an incumbent that is that of one of these visits
-record IsOfVisit (vs : List Judgement) (incumbent : Incumbent) : Type 0 where
+-- an incumbent that is that of the first of these visits with its worth, which is above what was there before
+record IsFirstOf (incumbent : Incumbent) (vs : List Judgement) (best : Incumbent) : Type 0 where
+  pub before : List Judgement
   pub visit : Judgement
-  pub there : Contains vs visit
-  pub is : incumbent ≡ incumbent_at visit
+  pub after : List Judgement
+  pub stands : vs ≡ before ++ visit ∷ after
+  pub is : best ≡ incumbent_at visit
+  pub lower : AllByRecursion (λ (u : Judgement). u.value < visit.value) before
+  pub above : incumbent.worth < visit.value
 
-improved-cases : (incumbent : Incumbent) (visit : Judgement) → (improved incumbent visit.value visit.path ≡ incumbent) ⊎ (improved incumbent visit.value visit.path ≡ incumbent_at visit)
+improved-cases : (incumbent : Incumbent) (visit : Judgement)
+    → ((improved incumbent visit.value visit.path ≡ incumbent) × (visit.value ≤ incumbent.worth)) ⊎ ((improved incumbent visit.value visit.path ≡ incumbent_at visit) × (incumbent.worth < visit.value))
 improved-cases incumbent visit =
-    elim (nat_lt incumbent.worth visit.value) as (λ b. ((if b then incumbent_at visit else incumbent) ≡ incumbent) ⊎ ((if b then incumbent_at visit else incumbent) ≡ incumbent_at visit)) [ true ↦ inr refl | false ↦ inl refl ]
+    elim (nat_lt incumbent.worth visit.value) as (λ b. nat_lt incumbent.worth visit.value ≡ b
+    → (((if b then incumbent_at visit else incumbent) ≡ incumbent) × (visit.value ≤ incumbent.worth)) ⊎ (((if b then incumbent_at visit else incumbent) ≡ incumbent_at visit) × (incumbent.worth < visit.value))) [
+      | true ↦ λ is. let above : incumbent.worth < visit.value = grind (arith, nat_tests) in inr (refl, above)
+      | false ↦ λ is. let most : visit.value ≤ incumbent.worth = grind (arith, nat_tests) in inl (refl, most)
+    ]
+    refl
 
 -- a visit before the others: the best of all is what was there before, that visit, or one of the others
-cases-push : (incumbent next : Incumbent) (v : Judgement) (vs : List Judgement) → next ≡ improved incumbent v.value v.path → (best_after Plain next vs ≡ next) ⊎ IsOfVisit vs (best_after Plain next vs) → (best_after Plain next vs ≡ incumbent) ⊎ IsOfVisit (v ∷ vs) (best_after Plain next vs)
-cases-push incumbent next v vs next_is (inr f) = inr (record { visit = f.visit; there = Contains-tail v vs f.visit f.there; is = f.is })
-cases-push incumbent next v vs next_is (inl e) = by (improved-cases incumbent v)
+cases-push : (incumbent next : Incumbent) (v : Judgement) (vs : List Judgement) → next ≡ improved incumbent v.value v.path → (best_after Plain next vs ≡ next) ⊎ IsFirstOf next vs (best_after Plain next vs) → (best_after Plain next vs ≡ incumbent) ⊎ IsFirstOf incumbent (v ∷ vs) (best_after Plain next vs)
+cases-push incumbent next v vs next_is rest = by (improved-cases incumbent v) rest
   where
-    by : (improved incumbent v.value v.path ≡ incumbent) ⊎ (improved incumbent v.value v.path ≡ incumbent_at v) → (best_after Plain next vs ≡ incumbent) ⊎ IsOfVisit (v ∷ vs) (best_after Plain next vs)
-    by (inl kept) = inl (e ∙ next_is ∙ kept)
-    by (inr new) = inr (record { visit = v; there = Contains-head v vs; is = e ∙ next_is ∙ new })
+    by : ((improved incumbent v.value v.path ≡ incumbent) × (v.value ≤ incumbent.worth)) ⊎ ((improved incumbent v.value v.path ≡ incumbent_at v) × (incumbent.worth < v.value)) → (best_after Plain next vs ≡ next) ⊎ IsFirstOf next vs (best_after Plain next vs) → (best_after Plain next vs ≡ incumbent) ⊎ IsFirstOf incumbent (v ∷ vs) (best_after Plain next vs)
+    by (inl kept) (inl e) = inl (e ∙ next_is ∙ kept.0)
+    by (inr new) (inl e) = inr (record { before = []; visit = v; after = vs; stands = refl; is = e ∙ next_is ∙ new.0; lower = tt; above = new.1 })
+    by (inl kept) (inr f) =
+        let same : next.worth ≡ incumbent.worth = ap (λ (i : Incumbent). i.worth) (next_is ∙ kept.0) in
+        let most = kept.1 in
+        let more = f.above in
+        inr (record { before = v ∷ f.before; visit = f.visit; after = f.after; stands = ap (λ us. v ∷ us) f.stands; is = f.is; lower = (omega (arith, same, most, more), f.lower); above = omega (arith, same, more) })
+    by (inr new) (inr f) =
+        let same : next.worth ≡ v.value = ap (λ (i : Incumbent). i.worth) (next_is ∙ new.0) in
+        let least = new.1 in
+        let more = f.above in
+        inr (record { before = v ∷ f.before; visit = f.visit; after = f.after; stands = ap (λ us. v ∷ us) f.stands; is = f.is; lower = (omega (arith, same, more), f.lower); above = omega (arith, same, least, more) })
 
--- the best of some visits is what was there before or one of them
-best_after-cases : (incumbent : Incumbent) (vs : List Judgement) → (best_after Plain incumbent vs ≡ incumbent) ⊎ IsOfVisit vs (best_after Plain incumbent vs)
+-- the best of some visits is what was there before or the first of those of its worth
+best_after-cases : (incumbent : Incumbent) (vs : List Judgement) → (best_after Plain incumbent vs ≡ incumbent) ⊎ IsFirstOf incumbent vs (best_after Plain incumbent vs)
 best_after-cases incumbent [] = inl refl
 best_after-cases incumbent (v ∷ vs) =
     let next = improved incumbent (answer_key Plain v.value) v.path in
@@ -122,26 +142,47 @@ module _ {N : Type 0} (t : SearchTree N) where
   root-visited zero = Contains-head [] []
   root-visited (suc levels) = Contains-head [] (visited_paths (in_turn visited_worth (λ p c h. if nat_le (t.bound c) (limit 0 h) then cut p (t.bound c) h ∷ [] else visit_notes t 0 levels p c h) [] 0 (t.children t.root) (max 0 (t.worth t.root)) ++ ended [] ∷ []))
 
-  -- the node at the path of a visit of the greatest worth
-  node-best : (notes : List Note) (visit : Judgement) → Contains (visits notes) visit → visit.value ≡ maximum (values (visits notes)) → (found : Option N) → at_path t visit.path ≡ found → IfSome found (IsBestVisit t notes)
-  node-best notes visit there greatest_is None e = tt
-  node-best notes visit there greatest_is (Some n) e = record { visit = visit; visited = there; node_there = e; greatest = greatest_is }
+  -- the node at the path of a first visit of the greatest worth
+  abbrev FirstBest : Option N → Type 0
+  FirstBest found = IfSome found (IsFirstBest t (seq_log t 0))
+
+  node-first : (start best : Incumbent) (f : IsFirstOf start (visits (seq_log t 0)) best) → f.visit.value ≡ maximum (values (visits (seq_log t 0))) → (found : Option N) → at_path t f.visit.path ≡ found → FirstBest found
+  node-first start best f greatest_is None e = tt
+  node-first start best f greatest_is (Some n) e = record {
+    before = f.before;
+    visit = f.visit;
+    after = f.after;
+    stands = f.stands;
+    node_there = e;
+    greatest = greatest_is;
+    first = AllByRecursion-weaker (λ (u : Judgement). u.value < f.visit.value) (λ (u : Judgement). u.value ≢ f.visit.value) (λ u less same. omega (arith, less, same)) f.before f.lower;
+  }
+
+  -- which is a visit of the greatest worth
+  first-visit : (found : Option N) → FirstBest found → IfSome found (IsBestVisit t (seq_log t 0))
+  first-visit None f = tt
+  first-visit (Some n) f = record {
+    visit = f.visit;
+    visited = subst (λ us. Contains us f.visit) (sym f.stands) (Contains-append_right f.before (f.visit ∷ f.after) f.visit (Contains-head f.visit f.after));
+    node_there = f.node_there;
+    greatest = f.greatest;
+  }
 
   module _ {sound : N → Type 0} (ranked : IsRanked sound t.children t.rank) (bounded : IsBounded sound t.children t.worth t.bound) (root : sound t.root) where
-    -- the first best node stands at a visit of the greatest worth
-    first_node-best : IfSome (first_node t) (IsBestVisit t (seq_log t 0))
-    first_node-best = by (best_after-cases (record { worth = 0; path = None }) (visits (seq_log t 0)))
+    -- the first best node stands at the first visit of the greatest worth
+    first_node-first : FirstBest (first_node t)
+    first_node-first = by (best_after-cases (record { worth = 0; path = None }) (visits (seq_log t 0)))
       where
-        by : (best_after Plain (record { worth = 0; path = None }) (visits (seq_log t 0)) ≡ record { worth = 0; path = None }) ⊎ IsOfVisit (visits (seq_log t 0)) (best_after Plain (record { worth = 0; path = None }) (visits (seq_log t 0))) → IfSome (first_node t) (IsBestVisit t (seq_log t 0))
+        by : (best_after Plain (record { worth = 0; path = None }) (visits (seq_log t 0)) ≡ record { worth = 0; path = None }) ⊎ IsFirstOf (record { worth = 0; path = None }) (visits (seq_log t 0)) (best_after Plain (record { worth = 0; path = None }) (visits (seq_log t 0))) → FirstBest (first_node t)
         by (inl e) =
             let none : first_best t ≡ None = ap (λ (i : Incumbent). i.path) (sym (best_after-seq_log t ranked bounded root) ∙ e) in
-            subst (λ (o : Option (List ℕ)). IfSome (option_and_then (λ path. at_path t path) o) (IsBestVisit t (seq_log t 0))) (sym none) tt
+            subst (λ (o : Option (List ℕ)). FirstBest (option_and_then (λ path. at_path t path) o)) (sym none) tt
         by (inr f) =
             let some : first_best t ≡ Some f.visit.path = ap (λ (i : Incumbent). i.path) (sym (best_after-seq_log t ranked bounded root) ∙ f.is) in
             let worth = ap (λ (i : Incumbent). i.worth) f.is in
             let most = best_after-worth (record { worth = 0; path = None }) (visits (seq_log t 0)) in
-            subst (λ (o : Option (List ℕ)). IfSome (option_and_then (λ path. at_path t path) o) (IsBestVisit t (seq_log t 0))) (sym some)
-            (node-best (seq_log t 0) f.visit f.there (omega (arith, worth, most)) (at_path t f.visit.path) refl)
+            subst (λ (o : Option (List ℕ)). FirstBest (option_and_then (λ path. at_path t path) o)) (sym some)
+            (node-first (record { worth = 0; path = None }) (best_after Plain (record { worth = 0; path = None }) (visits (seq_log t 0))) f (omega (arith, worth, most)) (at_path t f.visit.path) refl)
 
     -- what holds of the entries behind the Taken entry
     body-part : Part t 0 [] 0 (visit_notes t 0 (t.rank t.root) [] t.root 0)
@@ -171,7 +212,7 @@ module _ {N : Type 0} (t : SearchTree N) where
         }
 
     -- the one sequential log is the logs of a whole search
-    pub seq_log-are_logs : AreLogs t 0 sequential 1 (seq_log t 0 ∷ []) (first_node t)
+    seq_log-are_logs : AreLogs t 0 sequential 1 (seq_log t 0 ∷ []) (first_node t)
     seq_log-are_logs =
         let is : seq_log t 0 ≡ joined (seq_log t 0 ∷ []) = sym (append-nil (seq_log t 0)) in
         record {
@@ -180,8 +221,12 @@ module _ {N : Type 0} (t : SearchTree N) where
           tasks = subst (λ ns. SameBag (taken_paths ns) ([] ∷ sent_paths ns)) is seq_log-tasks;
           cover = subst (λ ns. Cover t (visited_paths ns) (cut_paths ns)) is seq_log-cover;
           attained = subst (λ ns. Attained t 0 (visits ns) (cuts ns)) is seq_log-attained;
-          best = subst (λ ns. IfSome (first_node t) (IsBestVisit t ns)) is first_node-best;
+          best = subst (λ ns. IfSome (first_node t) (IsBestVisit t ns)) is (first-visit (first_node t) first_node-first);
         }
+
+    -- so its report and its audit are those of a search, and of the first of all
+    pub plain-tail : (report audit : Bool) → IsTail t 0 sequential 1 report audit (first_node t) (tail_text report audit 1 (seq_log t 0 ∷ [])) × IsFirstTail t 0 report audit (first_node t) (tail_text report audit 1 (seq_log t 0 ∷ []))
+    plain-tail report audit = (record { logs = seq_log t 0 ∷ []; are_logs = seq_log-are_logs; text_is = refl }, record { first = first_node-first; text_is = refl })
 
 -- what the paths of these entries weigh together
 abbrev total : (List ℕ → ℕ) → List Note → ℕ
