@@ -1,4 +1,5 @@
 pub mod Blocks
+pub mod BrokenLogs
 pub mod CausesOfCuts
 pub mod Covered
 pub mod Ends

@@ -1,16 +1,18 @@
 //! The laws of logs. Each function is a law: it does nothing, and its contract is proved once for all that cite it.
 
-ghost use Rattle.std.specs.Prelude.{◌≡◌, ◌<◌, ◌≤◌, ℕ, Bool, List, length};
+ghost use Rattle.std.specs.Prelude.{◌≡◌, ◌<◌, ◌≤◌, ℕ, Bool, List, ◌++◌, length, IsSome};
+ghost use Rattle.std.specs.List.{AllByRecursion};
 ghost use Rattle.std.specs.Cmp.Lexicographic.{slice_cmp};
 ghost use Rattle.std.specs.Ordering.{nat_cmp, is_lt};
 ghost use Rattle.yew_laws.specs.Order.{comes_before};
-ghost use Rattle.yew_laws.specs.SearchTree.{search_tree};
+ghost use Rattle.yew_laws.specs.SearchTree.{search_tree, at_path};
 ghost use Rattle.yew_log.specs.AuditFull.{IsAuditFull, IsLarge};
 ghost use Rattle.yew_log.specs.Groups.{Part, Skeleton, sequential, by_depth, by_budget, by_steal, in_order, HasGroups, NoGroup, SkeletonGroup};
-ghost use Rattle.yew_log.specs.Lawful.{LawfulLog};
+ghost use Rattle.yew_log.specs.HeldValues.{KeyKind, HeldRises, IsJudged};
+ghost use Rattle.yew_log.specs.Lawful.{LawfulLog, IsBrokenLog};
 ghost use Rattle.yew_log.specs.Notes.{Note, spawned_paths, handed_paths, sent_paths};
 ghost use Rattle.yew_log.specs.Policies.{HasPolicy, plain_policy, depth_policy, spending, budget_policy, hungry_policy};
-ghost use Rattle.yew_log.specs.Segment.{Segment, IsSegment};
+ghost use Rattle.yew_log.specs.Segment.{Segment, entries, IsSegment, IsBroken};
 ghost use Rattle.yew_log.specs.SeqLog.{seq_log};
 
 use yew_laws::{Path, Problem};
@@ -74,4 +76,17 @@ pub fn less_comes_before(first: &Path, second: &Path) -> bool
     ensures order { (p q : List ℕ) → is_lt (slice_cmp nat_cmp p q) ≡ comes_before p q }
 {
     first < second
+}
+
+/// Whole segments are a log that may have been broken off, and so they are with one more that was broken off: of a whole
+/// segment whose task and whose tasks sent are of the tree, no path ends twice, and none has two entries of a kind.
+pub fn segments_are_broken_logs<P: Problem>(problem: &P)
+    requires { P.sound problem.now (P.root problem.now) }
+    ensures segment { (s : Segment) → let t = search_tree P.Problem problem.now in
+        IsSegment t s → IsSome (at_path t s.task) → AllByRecursion (λ path. IsSome (at_path t path)) (sent_paths s.body) → IsBroken t s }
+    ensures log { (gap : ℕ) (keyed : KeyKind) (whole last : List Segment) → let t = search_tree P.Problem problem.now in
+        AllByRecursion (IsSegment t) whole → AllByRecursion (IsBroken t) (whole ++ last) → length last ≤ 1
+        → HeldRises (entries (whole ++ last)) → IsJudged t gap keyed (entries (whole ++ last)) → IsBrokenLog t gap keyed (entries (whole ++ last)) }
+{
+    let _ = problem;
 }

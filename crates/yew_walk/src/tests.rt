@@ -338,6 +338,26 @@ fn shared<Q: Policy + Drop>(
     Ok((text, nodes))
 }
 
+// At the last end there is no child left, and the list is empty.
+#[test]
+fn sends_a_list_at_each_act(rt: HostRuntime) -> Result<(), Fail> {
+    let numbers = second_is_best(NEVER);
+    let mut outlet = Wanting::new(rt.alloc(), &numbers, 1);
+    let mut policy = Hungry::new(Chunk::One);
+    let found = walked(
+        rt.alloc(),
+        &numbers,
+        Keying::Plain,
+        0,
+        &mut policy,
+        &mut outlet,
+    )?;
+    assert!(rt; found.ended.is_ok());
+    assert_eq!(rt; outlet.lists, outlet.calls);
+    assert!(rt; outlet.tasks.len() < outlet.lists as usize);
+    Ok(())
+}
+
 #[test]
 fn spawns_above_a_depth(rt: HostRuntime) -> Result<(), Fail> {
     let (text, nodes) = shared(rt.alloc(), Depth::new(1), NEVER)?;
