@@ -1,0 +1,4 @@
+pub mod ClaimRule
+pub mod ClaimSeats
+pub mod ClaimViews
+pub mod RankedSearch
