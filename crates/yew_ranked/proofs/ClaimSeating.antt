@@ -1,6 +1,6 @@
 -- Splitting a seat of the claims and joining two keep the rule, and what the last counter says of the whole seat.
-use Rattle.std.proofs.Common.{◌≡◌, ℕ, ◌+◌, ◌<◌, ◌≤◌, ◌≢◌, ◌⊎◌, ◌∙◌, List, [], ◌∷◌, ◌++◌, length, set, refl, sym, ap, subst, ⊎_elim, arith, slice_index, zero, suc}
-use Rattle.std.specs.Prelude.{sum_by, ◌==◌, if◌then◌else◌}
+use Rattle.std.proofs.Common.{◌≡◌, ℕ, ◌+◌, ◌<◌, ◌≢◌, ◌∙◌, List, [], ◌∷◌, ◌++◌, length, set, sym, ap, subst, ⊎_elim, arith, slice_index, zero, suc}
+use Rattle.std.specs.Prelude.{◌==◌, if◌then◌else◌}
 use Rattle.std.proofs.Math.ListN.{length-append}
 use Rattle.std.proofs.lemmas.List.Sums.{sum_by-append}
 use mathlib.Core.Option.{some, some-injective, some-ne-none}
@@ -50,7 +50,7 @@ join_rule seats n views seat other v w some_share is at apart to' =
       shares = (let t = total_join (λ (u : ClaimView). u.share) views seat other v w b z at to' in let e = is.shares in omega (arith, t, e));
       many = (let t = total_join (λ (u : ClaimView). length u.claimed) views seat other v w b z at to' in let e = is.many in omega (arith, t, e, longer));
       once = λ y. (let t = total_join (λ (u : ClaimView). times y u.claimed) views seat other v w b z at to' in let e = is.once y in
-      let p = sum_by-append (λ k. if k == y then 1 else 0) v.claimed w.claimed in omega (arith, t, e, p));
+          let p = sum_by-append (λ k. if k == y then 1 else 0) v.claimed w.claimed in omega (arith, t, e, p));
       each = λ j u e. ⊎_elim (λ (h : (j ≡ other) × (z ≡ u)). subst (Fits seats) h.1 spent)
           (λ (h : (j ≢ other) × (get_elem? middle j ≡ some u)). ⊎_elim (λ (g : (j ≡ seat) × (b ≡ u)). subst (Fits seats) g.1 both)
           (λ (g : (j ≢ seat) × (get_elem? views j ≡ some u)). is.each j u g.1) (at_set views seat j b u h.1)) (at_set middle other j z u e);

@@ -1,5 +1,5 @@
 -- From what a table's step tells to what contracts see of the claims and their seats.
-use Rattle.std.proofs.Common.{◌≡◌, ℕ, ◌<◌, ◌∙◌, List, [], sym, ap, subst, arith, length}
+use Rattle.std.proofs.Common.{◌≡◌, ℕ, ◌<◌, ◌∙◌, [], sym, ap, subst, arith, length}
 use Rattle.atomic_table.specs.Seated.{TableId}
 use Rattle.yew_ranked.specs.declared.claim_view.ClaimView.{ClaimView}
 use Rattle.yew_ranked.specs.ClaimRule.{Tells}

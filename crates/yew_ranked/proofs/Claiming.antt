@@ -1,12 +1,11 @@
 -- An addition keeps the rule of the claims, and what it tells its seat.
-use Rattle.std.proofs.Common.{◌≡◌, ℕ, ◌+◌, ◌*◌, ◌%◌, ◌<◌, ◌≤◌, ◌≢◌, ◌⊎◌, ◌∙◌, Bool, List, [], ◌∷◌, ◌++◌, length, set, refl, sym, ap, subst, ⊎_elim, arith, slice_index, nat_lt, get_or, zero, suc}
+use Rattle.std.proofs.Common.{◌≡◌, ℕ, ◌+◌, ◌*◌, ◌%◌, ◌<◌, ◌≤◌, ◌≢◌, ◌∙◌, List, [], ◌∷◌, length, set, refl, sym, subst, ⊎_elim, arith, slice_index, nat_lt, get_or, suc}
 use Rattle.std.specs.Prelude.{sum_by, All, ◌==◌, if◌then◌else◌}
 use Rattle.std.proofs.lemmas.Bool.Decides.{nat_tests}
 use Rattle.std.proofs.Math.ListN.{length-set, length-append}
 use Rattle.std.proofs.lemmas.List.{get_or-set_same}
 use Rattle.std.proofs.lemmas.List.Sums.{sum_by_push, sum_by-cons, get_or-le-sum_by}
-use mathlib.Core.Option.{some, some-injective, some-ne-none}
-use native.Mathlib.Decide.{ℕ_discrete}
+use mathlib.Core.Option.{some}
 use lib.ListN.{get_elem?}
 use Rattle.atomic_table.specs.Table.{State, Me, keeps, Allows}
 use Rattle.yew_laws.proofs.Views.{at_set, total_set, one_part, two_parts, total_alone}
@@ -45,7 +44,7 @@ claimed_more seats next views seat v one few is at =
       shares = (let t = total_set (λ (u : ClaimView). u.share) views seat v w at in let e = is.shares in omega (arith, t, e));
       many = (let t = total_set (λ (u : ClaimView). length u.claimed) views seat v w at in let e = is.many in omega (arith, t, e, more));
       once = λ x. (let t = total_set (λ (u : ClaimView). times x u.claimed) views seat v w at in let e = is.once x in
-      let p = sum_by_push (λ y. if y == x then 1 else 0) v.claimed next in let o = once_more x next in omega (arith, t, e, p, o));
+          let p = sum_by_push (λ y. if y == x then 1 else 0) v.claimed next in let o = once_more x next in omega (arith, t, e, p, o));
       each = λ j u e. ⊎_elim (λ (t : (j ≡ seat) × (w ≡ u)). subst (Fits seats) t.1 record { whole = was.whole; few = omega (arith, more, few, one) })
           (λ (t : (j ≢ seat) × (get_elem? views j ≡ some u)). is.each j u t.1) (at_set views seat j w u e);
     }
@@ -98,9 +97,12 @@ takes seats slots seat me one few s holds count at small =
       keeps,
       tt,
       placed seats ((n + 1) % 18446744073709551616) s.words (set s.views seat w) holds.placed
-      (subst (λ (m : ℕ). IsCount seats m (set s.views seat w)) (sym (no_wrap seats n s.views is)) (claimed_more seats n s.views seat v one few is at)),
-      (refl, record {
-        above = below_next seats n s.views seat v is at;
-        alone = λ whole. sym (many_alone seats n s.views seat v is at (whole ∙ knows));
-      }),
+          (subst (λ (m : ℕ). IsCount seats m (set s.views seat w)) (sym (no_wrap seats n s.views is)) (claimed_more seats n s.views seat v one few is at)),
+      (
+        refl,
+        record {
+          above = below_next seats n s.views seat v is at;
+          alone = λ whole. sym (many_alone seats n s.views seat v is at (whole ∙ knows));
+        },
+      ),
     )

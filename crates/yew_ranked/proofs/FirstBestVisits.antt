@@ -1,23 +1,22 @@
 -- In a search by ranked keys the first best node is visited, and its visit has the greatest key.
-use Rattle.std.proofs.Common.{◌≡◌, ℕ, zero, suc, ◌+◌, ◌*◌, ◌-◌, ◌<◌, ◌≤◌, ◌⊎◌, List, [], ◌∷◌, ◌++◌, map, length, get_or, Option, Some, None, refl, ap, sym, subst, ◌∙◌, inl, inr, ⊎_elim, le_trans, arith}
-use Rattle.std.specs.Prelude.{IsTrue, IfSome, slice_get, option_and_then}
+use Rattle.std.proofs.Common.{◌≡◌, ℕ, zero, suc, ◌+◌, ◌<◌, ◌≤◌, ◌⊎◌, List, [], ◌∷◌, ◌++◌, Option, Some, None, refl, ap, sym, subst, ◌∙◌, ⊎_elim, arith}
+use Rattle.std.specs.Prelude.{IsTrue, slice_get, option_and_then}
 use Rattle.std.specs.List.{AllByRecursion, Contains, flat_map, sum_by}
 use Rattle.std.specs.Option.{option_map}
 use Rattle.std.proofs.lemmas.List.Elements.{All-contains, All-from_recursion}
 use Rattle.std.proofs.lemmas.List.Sums.{sum_by-append}
-use Rattle.std.proofs.lemmas.Option.{none-some, same_Some, option_and_then_some}
+use Rattle.std.proofs.lemmas.Option.{none-some, same_Some}
 use native.Mathlib.Decide.{ℕ_discrete}
 use Rattle.yew_laws.specs.Tree.{Member, node_at, tree, prefixed, IsRanked, IsBounded}
 use Rattle.yew_laws.specs.SearchTree.{SearchTree, at_path, worth_at, bound_at, below, tree_paths}
 use Rattle.yew_laws.specs.Greatest.{greatest, first_best}
-use Rattle.yew_laws.specs.Order.{comes_before, is_path, only, occurs}
-use Rattle.yew_laws.specs.Cover.{Cover}
+use Rattle.yew_laws.specs.Order.{comes_before, is_path, only}
 use Rattle.yew_laws.proofs.Below.{AtOrBelow}
 use Rattle.yew_laws.proofs.Members.{AllByRecursion-weaker, Contains-map}
 use Rattle.yew_laws.proofs.Once.{Once, once-step}
 use Rattle.yew_laws.proofs.PathTests.{is_path-same, is_path-is}
 use Rattle.yew_laws.proofs.Trees.{ranked_induction, tree-contains, tree-sound}
-use Rattle.yew_laws.proofs.Weights.{all-weighs, contains-weighs, contains-has_weight, all-contained}
+use Rattle.yew_laws.proofs.Weights.{all-weighs, contains-weighs, contains-has_weight}
 use Rattle.yew_log.specs.Items.{ranked_key}
 use Rattle.yew_walk.proofs.Bests.{first_best-node}
 use Rattle.yew_ranked.specs.RankedSearch.{RankedJudgement, ranked_paths, key_of_judgement, IsOfferedBefore, IsRankedSearch, IsFirstBestVisit}

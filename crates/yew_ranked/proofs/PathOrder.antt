@@ -1,9 +1,8 @@
 -- The order of paths: no path comes before itself, of two at most one comes before the other, and what comes before a path comes before all below it.
-use Rattle.std.proofs.Common.{◌≡◌, ℕ, ◌<◌, ◌⊎◌, List, [], ◌∷◌, ◌++◌, Bool, true, false, ◌&&◌, ◌||◌, ◌==◌, nat_lt, refl, ap, sym, ◌∙◌, inl, inr, arith}
+use Rattle.std.proofs.Common.{◌≡◌, ℕ, ◌<◌, ◌⊎◌, List, [], ◌∷◌, ◌++◌, Bool, true, false, ◌&&◌, ◌||◌, ◌==◌, nat_lt, refl, sym, inl, inr, arith}
 use Rattle.std.specs.Prelude.{IsTrue}
 use Rattle.std.proofs.lemmas.Bool.Decides.{nat_tests}
 use Rattle.yew_laws.specs.Order.{comes_before, lies_below}
-use Rattle.yew_laws.proofs.PathTests.{nat_same}
 
 not_true : false ≡ true → ⊥
 not_true e = cc

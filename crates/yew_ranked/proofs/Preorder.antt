@@ -1,16 +1,15 @@
 -- The members of a tree in preorder have paths that rise, so the first best path comes before any other of its worth.
-use Rattle.std.proofs.Common.{◌≡◌, ℕ, zero, suc, ◌<◌, ◌≤◌, ◌⊎◌, max, List, [], ◌∷◌, ◌++◌, map, Bool, true, false, Option, Some, None, ◌==◌, if◌then◌else◌, refl, ap, sym, subst, ◌∙◌, inl, inr, arith}
+use Rattle.std.proofs.Common.{◌≡◌, ℕ, zero, suc, ◌<◌, ◌≤◌, ◌⊎◌, List, [], ◌∷◌, ◌++◌, map, Bool, true, false, Option, Some, None, ◌==◌, if◌then◌else◌, refl, sym, subst, inl, inr, arith}
 use Rattle.std.specs.Prelude.{IsTrue}
-use Rattle.std.specs.List.{AllByRecursion, Contains}
+use Rattle.std.specs.List.{AllByRecursion}
 use Rattle.std.proofs.lemmas.Bool.Decides.{nat_tests}
 use Rattle.std.proofs.lemmas.List.Elements.{All-contains, All-from_recursion}
 use Rattle.std.proofs.lemmas.Option.{none-some, same_Some}
-use Rattle.yew_laws.specs.Tree.{Member, child_member, forest, root_member, tree, IsRanked}
+use Rattle.yew_laws.specs.Tree.{Member, child_member, forest, tree, IsRanked}
 use Rattle.yew_laws.specs.SearchTree.{SearchTree, preorder, at_path}
 use Rattle.yew_laws.specs.Greatest.{greatest_of, greatest, first_with, first_best}
 use Rattle.yew_laws.specs.Order.{comes_before}
 use Rattle.yew_laws.proofs.Members.{AllByRecursion-append, AllByRecursion-map, AllByRecursion-weaker}
-use Rattle.yew_laws.proofs.PathTests.{nat-is, nat_same}
 use Rattle.yew_laws.proofs.Trees.{ranked_induction, tree-unfolds, tree-contains}
 use Rattle.yew_ranked.proofs.PathOrder.{before-same_first, before-smaller_first}
 

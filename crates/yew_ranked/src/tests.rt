@@ -39,7 +39,11 @@ fn workers_share_the_counter_and_own_their_seats(rt: HostRuntime) -> Result<(), 
 fn claimed_by_two<R: Threads + Sync>(rt: &R, alloc: Global) -> Result<(u64, u64), Memory> {
     let (claims, mut first) = Claims::new(alloc, 2)?;
     let second = claims.split(&mut first);
-    let ((mut first, a), (second, b)) = join(rt, || claim_some(&claims, first), || claim_some(&claims, second));
+    let ((mut first, a), (second, b)) = join(
+        rt,
+        || claim_some(&claims, first),
+        || claim_some(&claims, second),
+    );
     claims.join(&mut first, second);
     Ok((claims.close(first), a.wrapping_add(b)))
 }
@@ -53,7 +57,7 @@ fn claim_some(claims: &Claims, mut seat: ClaimSeat) -> (ClaimSeat, u64)
     ensures one { result.0.share ≡ 1 }
 {
     let mut sum: u64 = 0;
-    for _turn in 0..1000 {
+    for _turn in 0..1000_u64 {
         sum = sum.wrapping_add(claims.claim(&mut seat));
     }
     (seat, sum)

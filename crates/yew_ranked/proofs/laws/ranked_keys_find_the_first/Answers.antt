@@ -2,7 +2,7 @@ use Rattle.std.proofs.Common.{ℕ, List, Option, Some, None, ◌≡◌, refl}
 use Rattle.std.specs.Prelude.{IfSome}
 use Rattle.yew_laws.specs.Greatest.{first_best}
 use Rattle.yew_laws.specs.SearchTree.{search_tree}
-use Rattle.yew_ranked.specs.RankedSearch.{RankedJudgement, IsRankedSearch, IsFirstBestVisit}
+use Rattle.yew_ranked.specs.RankedSearch.{IsFirstBestVisit}
 use Rattle.yew_ranked.proofs.FirstBestVisits.{first-best-visit}
 use Rattle.yew_ranked.proofs.RankedAnswers.{answer-is_first}
 use Rattle.yew_ranked.proofs.laws.ranked_keys_find_the_first.Goals as goal
