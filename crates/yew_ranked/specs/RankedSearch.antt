@@ -1,5 +1,5 @@
 -- A search whose visits and cuts are decided by ranked keys, whatever the schedule: what each of them was, in which item, and by which word.
-use Rattle.std.specs.Prelude.{◌≡◌, ℕ, ◌/◌, ◌<◌, ◌≤◌, ◌^◌, ◌⊎◌, List, [], ◌∷◌, map, Some, IsTrue, ◌==◌, if◌then◌else◌}
+use Rattle.std.specs.Prelude.{◌≡◌, ℕ, ◌/◌, ◌<◌, ◌≤◌, ◌^◌, ◌⊎◌, List, [], ◌∷◌, map, Some, IsTrue, nat_lt, ◌==◌, if◌then◌else◌}
 use Rattle.std.specs.List.{AllByRecursion, Contains}
 use Rattle.yew_laws.specs.Cover.{Cover}
 use Rattle.yew_laws.specs.Greatest.{greatest, first_best}
@@ -7,6 +7,7 @@ use Rattle.yew_laws.specs.Incumbent.{Incumbent, improved}
 use Rattle.yew_laws.specs.Order.{comes_before}
 use Rattle.yew_laws.specs.SearchTree.{SearchTree, worth_at, bound_at}
 use Rattle.yew_log.specs.Items.{ranked_key}
+use Rattle.yew_log.specs.Notes.{Judgement, judgement}
 
 -- a visit or a cut: its path, its worth or its bound, the number of its item, and the word that was read
 pub record RankedJudgement : Type 0 where
@@ -70,3 +71,16 @@ ranked_answer incumbent (v ∷ vs) = ranked_answer (improved incumbent (answer_k
 pub record IsFirstAnswer {N : Type 0} (t : SearchTree N) (answer : Incumbent) : Type 0 where
   pub path_is : answer.path ≡ first_best t
   pub worth_is : answer.worth / 2 ^ 20 ≡ greatest t
+
+-- the better of two answers, the first one where their keys are equal
+abbrev pub better : Incumbent → Incumbent → Incumbent
+better incumbent other = if nat_lt incumbent.worth other.worth then other else incumbent
+
+-- what is gathered of several answers: the first of the greatest key
+abbrev pub gathered_answer : Incumbent → List Incumbent → Incumbent
+gathered_answer incumbent [] = incumbent
+gathered_answer incumbent (other ∷ others) = gathered_answer (better incumbent other) others
+
+-- a visit or a cut as a log has it: the held value is the worth that the word holds
+abbrev pub plain_judgement : RankedJudgement → Judgement
+plain_judgement j = judgement j.path j.value (j.word / 2 ^ 20)

@@ -10,4 +10,4 @@ mod laws;
 mod tests;
 
 pub use claims::{ClaimSeat, Claims};
-pub use laws::{items_rise, ranked_keys_find_the_first};
+pub use laws::{answers_gather, frontier_has_the_items, items_rise, ranked_keys_find_the_first};
