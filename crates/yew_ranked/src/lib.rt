@@ -1,5 +1,9 @@
-//! Ordered: several workers whose answer is that of one. The nodes above a depth are walked first, by one worker; then all
-//! workers claim the tasks at that depth in the order of their numbers.
+//! What a search needs so that several workers have the answer of one, its path included: a counter by which they claim
+//! tasks in the order of their numbers, and the laws of the keys that carry these numbers.
+//!
+//! [`Claims`] gives each number once, by one addition. [`ranked_keys_find_the_first`] says why keys that carry the number of
+//! an item give the first best node, whatever the schedule; [`items_rise`] and [`frontier_has_the_items`] say which items
+//! there are, and [`answers_gather`] how the hands of workers come together.
 #![tactic(auto)]
 
 mod claim_steps;
