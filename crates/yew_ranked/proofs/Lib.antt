@@ -1,0 +1,10 @@
+pub mod Claiming
+pub mod GatheredAnswers
+pub mod ClaimSeating
+pub mod ClaimTies
+pub mod FirstBestVisits
+pub mod FrontierItems
+pub mod ItemPlaces
+pub mod PathOrder
+pub mod Preorder
+pub mod RankedAnswers
