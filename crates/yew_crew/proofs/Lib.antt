@@ -1,0 +1,3 @@
+pub mod OpenSeating
+pub mod OpenStepping
+pub mod OpenTies

@@ -1,0 +1,12 @@
+//! The crew: workers that search one tree together.
+#![tactic(auto)]
+
+mod coord;
+mod open_steps;
+mod open_tasks;
+mod open_view;
+mod station;
+
+pub use coord::Coord;
+pub use open_tasks::{Open, OpenSeat};
+pub use station::{End, Report, Shared, Station};
