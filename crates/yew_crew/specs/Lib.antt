@@ -1,3 +1,4 @@
+pub mod CrewSearch
 pub mod Crews
 pub mod Groups
 pub mod Looks
