@@ -62,16 +62,17 @@ module _ {P S R N K : Type 0} where
     AreReports (station ∷ stations) [] = ⊥
     AreReports (station ∷ stations) (report ∷ reports) = IsReport s station report × AreReports stations reports
 
-    -- each station is what the work at the one before left
-    abbrev pub AreWorked : List (Station P S R N K) → List (Station P S R N K) → Type 0
-    AreWorked [] [] = Unit {0}
-    AreWorked [] (after ∷ afters) = ⊥
-    AreWorked (before ∷ befores) [] = ⊥
-    AreWorked (before ∷ befores) (after ∷ afters) = IsGroupWork s before after × AreWorked befores afters
+    -- each station is what the work at the one before left, where one group stands for each
+    abbrev pub AreWorked : List (Group N S) → List (Station P S R N K) → List (Station P S R N K) → Type 0
+    AreWorked [] [] [] = Unit {0}
+    AreWorked [] [] (after ∷ afters) = ⊥
+    AreWorked [] (before ∷ befores) afters = ⊥
+    AreWorked (group ∷ groups) [] afters = ⊥
+    AreWorked (group ∷ groups) (before ∷ befores) [] = ⊥
+    AreWorked (group ∷ groups) (before ∷ befores) (after ∷ afters) = ((work : IsGroupWork s before after) × (work.group ≡ group)) × AreWorked groups befores afters
 
-    -- what all workers have done is what one group has done, by which the joined seats and all passes have grown
-    pub record IsCrewWork (seat : SeatView) (tasks : OpenSeatView) (befores afters : List (Station P S R N K)) : Type 0 where
-      pub group : Group N S
+    -- what all workers have done is what this group has done, by which the joined seats and all passes have grown
+    pub record IsCrewWork (group : Group N S) (seat : SeatView) (tasks : OpenSeatView) (befores afters : List (Station P S R N K)) : Type 0 where
       pub balanced : IsBalanced s.tree s.gap s.join s.none s.of group
       pub took_is : SameBag (took_of afters) (took_of befores ++ group.took)
       pub put_is : SameBag (put_of afters) (put_of befores ++ group.put)
@@ -79,5 +80,5 @@ module _ {P S R N K : Type 0} where
       pub given_is : SameBag (given_of afters) (given_of befores ++ group.given)
       pub reads : (best_with seat afters).read ≡ seat.read ++ group.read
       pub offers : (best_with seat afters).offered ≡ seat.offered ++ group.offered
-      pub made_is : (tasks_with tasks afters).made ≡ tasks.made + (sum_by (λ (s' : Station P S R N K). s'.tasks.made) befores + group.made)
-      pub ended_is : (tasks_with tasks afters).ended ≡ tasks.ended + (sum_by (λ (s' : Station P S R N K). s'.tasks.ended) befores + group.ended)
+      pub made_is : (tasks_with tasks afters).made ≡ tasks.made + (sum_by (λ (b : Station P S R N K). b.tasks.made) befores + group.made)
+      pub ended_is : (tasks_with tasks afters).ended ≡ tasks.ended + (sum_by (λ (b : Station P S R N K). b.tasks.ended) befores + group.ended)

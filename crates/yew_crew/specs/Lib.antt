@@ -1,5 +1,6 @@
 pub mod CrewSearch
 pub mod Crews
+pub mod Gathering
 pub mod Groups
 pub mod Looks
 pub mod OpenRule

@@ -2,11 +2,14 @@
 #![tactic(auto)]
 
 mod coord;
+mod hands;
+pub mod laws;
 mod open_steps;
 mod open_tasks;
 mod open_view;
 mod station;
 
 pub use coord::Coord;
+pub use hands::gather;
 pub use open_tasks::{Open, OpenSeat};
 pub use station::{End, Report, Shared, Station};
