@@ -2,6 +2,8 @@ pub mod CrewEnds
 pub mod CrewWork
 pub mod Gathering
 pub mod GroupLaws
+pub mod Joins
+pub mod NearBest
 pub mod OpenSeating
 pub mod OpenStepping
 pub mod OpenTies

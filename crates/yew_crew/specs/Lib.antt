@@ -2,6 +2,7 @@ pub mod CrewSearch
 pub mod Crews
 pub mod Gathering
 pub mod Groups
+pub mod Joining
 pub mod Looks
 pub mod OpenRule
 pub mod OpenSeats

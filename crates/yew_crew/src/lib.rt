@@ -3,6 +3,7 @@
 
 mod coord;
 mod hands;
+mod joining;
 pub mod laws;
 mod open_steps;
 mod open_tasks;

@@ -9,6 +9,7 @@ use yew_walk::{Hand, SearchFault};
 
 /// What all workers of a crew share: the incumbent word, the pool, the mailboxes, the count of open tasks, and by how
 /// much a node that is cut off may better the held value.
+#[derive(Drop)]
 pub struct Shared<P: Problem> {
     pub best: Best,
     pub pool: Pool<P>,
