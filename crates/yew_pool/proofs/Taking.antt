@@ -12,7 +12,7 @@ use Rattle.yew_laws.proofs.Bags.{sum_by-flat_map}
 use Rattle.yew_pool.specs.Rule.{has_taken, Balances}
 use Rattle.yew_pool.specs.declared.rule.Hand.{Hand}
 use Rattle.yew_pool.specs.Places.{PlaceView, once_more}
-use Rattle.yew_pool.specs.Passes.{PassView, deques_of, taken_at, pass_view, IsPlaced, AreSeated, HasTaken}
+use Rattle.yew_pool.specs.Passes.{PassView, deques_of, taken_at, pass_view, IsPlaced, AreSeated, IsSeated, HasTaken}
 use Rattle.yew_pool.specs.Tasks.{IsSoundFor}
 
 module _ {T Q : Type 0} where
@@ -183,6 +183,10 @@ module _ {T Q : Type 0} where
   seated_pop number own new p w places (Some x) are is some none counts =
       seated_owner number own new (set places number w) (seated_alike number number own places p w are are.within is (ap (λ (t : PlaceView T Q). t.deque) some.1) (ap (λ (t : PlaceView T Q). t.hand) some.1))
       (ap (λ (t : PlaceView T Q). t.deque) some.0) (ap (λ (t : PlaceView T Q). t.hand.share) some.0) (ap (λ (t : PlaceView T Q). t.hand.whole) some.0) (ap (λ (t : PlaceView T Q). t.hand.problem) some.0)
+
+  -- one of the places has changed, and the room is the same
+  pub is_seated : (number : ℕ) (own : PlaceView T Q) (places : List (PlaceView T Q)) (room : ℕ) → IsSeated number own places room → (at : ℕ) (w new : PlaceView T Q) → AreSeated number new (set places at w) → IsSeated number new (set places at w) room
+  is_seated number own places room is at w new seated = record { seated = seated; enough = (let l = length-set places at w in let r = is.enough in omega (arith, l, r)) }
 
   stole : (number at : ℕ) (own : PlaceView T Q) (places : List (PlaceView T Q)) (p : PlaceView T Q) (x : T) → at < length places → get_or places at p ≡ p
       → HasTaken (pass_view number own places) x (pass_view number own (set places at (taken p x)))
