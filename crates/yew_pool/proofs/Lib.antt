@@ -8,3 +8,5 @@ pub mod Looking
 pub mod Starting
 pub mod Seating
 pub mod Order
+pub mod Apart
+pub mod Left

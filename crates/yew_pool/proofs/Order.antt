@@ -61,9 +61,12 @@ module _ {T Q : Type 0} where
   pub order_begins : (pool : PoolId) (count : ℕ) (all : List (PassView T Q)) → All (λ (p : PassView T Q). p.pool ≡ pool) all → length all ≡ count → AreOrdering pool count all all 0
   order_begins pool count all pools long = record { long = long; bag = same-refl all; pools = pools; told = λ about a. a; placed = λ at d less. absurd (omega arith) }
 
-  -- the next pass is of the pool
-  pub order_at : (pool : PoolId) (count at : ℕ) (all now : List (PassView T Q)) (x : PassView T Q) → AreOrdering pool count all now at → at < length now → x ≡ get_or now at x → x.pool ≡ pool
-  order_at pool count at all now x is below here = subst (λ (p : PassView T Q). p.pool ≡ pool) (sym here) (is.pools at x below)
+  -- a pass of the pool and its place
+  pub order_at : (pool : PoolId) (at k place : ℕ) (all now : List (PassView T Q)) (x : PassView T Q) → AreOrdering pool (length pool.deques) all now at → k < length now → x ≡ get_or now k x → x.number + place + 1 ≡ length x.pool.deques
+      → (x.number + place + 1 ≡ length pool.deques) × (place < length now)
+  order_at pool at k place all now x is below here placed =
+      let same : x.pool ≡ pool = subst (λ (p : PassView T Q). p.pool ≡ pool) (sym here) (is.pools k x below) in
+      let e : x.number + place + 1 ≡ length pool.deques = placed ∙ ap (λ (p : PoolId). length p.deques) same in (e, (let l = is.long in omega (arith, e, l)))
 
   pub order_next : (pool : PoolId) (count at : ℕ) (all now : List (PassView T Q)) (x : PassView T Q) → AreOrdering pool count all now at → at < length now → x ≡ get_or now at x → x.number + at + 1 ≡ count → AreOrdering pool count all now (at + 1)
   order_next pool count at all now x is below here place = record {

@@ -2,7 +2,7 @@
 use Rattle.std.proofs.Common.{◌≡◌, ◌≢◌, ℕ, ◌+◌, ◌<◌, ◌≤◌, ◌∙◌, zero, suc, List, [], ◌∷◌, ◌++◌, length, map, set, get_or, sym, refl, ap, subst, arith}
 use Rattle.std.specs.Prelude.{Option, Some, None, IfSome, IfNone, sum_by}
 use Rattle.std.specs.List.{flat_map}
-use Rattle.std.proofs.lemmas.List.{get_or-set_same, get_or-set_other, get_or_default, set-get_or, length-map}
+use Rattle.std.proofs.lemmas.List.{get_or-set_same, get_or-set_other, get_or-map, get_or_default, set-get_or, length-map}
 use Rattle.std.proofs.lemmas.List.Sums.{sum_by_push, sum_by-cons, sum_by-append, sum_by-set}
 use Rattle.std.proofs.Math.Seq.{map-set_same}
 use Rattle.std.proofs.Math.ListN.{length-set}
@@ -11,7 +11,7 @@ use Rattle.yew_laws.specs.Bag.{SameBag, PartOfBag}
 use Rattle.yew_laws.proofs.Bags.{sum_by-flat_map}
 use Rattle.yew_pool.specs.Rule.{has_taken, Balances}
 use Rattle.yew_pool.specs.declared.rule.Hand.{Hand}
-use Rattle.yew_pool.specs.Places.{PlaceView, once_more}
+use Rattle.yew_pool.specs.Places.{DequeId, PlaceView, once_more}
 use Rattle.yew_pool.specs.Passes.{PassView, deques_of, taken_at, pass_view, IsPlaced, AreSeated, IsSeated, HasTaken}
 use Rattle.yew_pool.specs.Tasks.{IsSoundFor}
 
@@ -239,3 +239,17 @@ module _ {T Q : Type 0} where
     ap (λ (t : PassView T Q). t.number) view,
     (let e = ap (λ (t : PassView T Q). length t.pool.deques) view in let l = length_map places in let w = are.within in omega (arith, e, l, w)),
   )
+
+  -- the deque at a pass's number is its own
+  pub owned : (number : ℕ) (own : PlaceView T Q) (places : List (PlaceView T Q)) (pass : PassView T Q) (d : DequeId) → pass_view number own places ≡ pass → AreSeated number own places → get_or pass.pool.deques pass.number d ≡ own.deque
+  owned number own places pass d view are =
+      subst (λ (t : PassView T Q). get_or t.pool.deques t.number d ≡ own.deque) view (get_or-map (λ (p : PlaceView T Q). p.deque) places number own d are.within ∙ are.here own)
+
+  -- passes of one pool with one number own one deque
+  pub same_owned : (n m : ℕ) (own other : PlaceView T Q) (places more : List (PlaceView T Q)) (x y : PassView T Q) → pass_view n own places ≡ x → pass_view m other more ≡ y → AreSeated n own places → AreSeated m other more → y.pool ≡ x.pool → y.number ≡ x.number
+      → other.deque ≡ own.deque
+  same_owned n m own other places more x y view view' are are' pool number =
+      sym (owned m other more y own.deque view' are') ∙ ((λ i. get_or (pool i).deques (number i) own.deque) ∙ owned n own places x own.deque view are)
+
+  pub has_share : (number : ℕ) (own : PlaceView T Q) (places : List (PlaceView T Q)) (pass : PassView T Q) → pass_view number own places ≡ pass → pass.share ≡ 1
+  has_share number own places pass view = sym (ap (λ (t : PassView T Q). t.share) view)

@@ -1,11 +1,12 @@
 //! The pool and its passes.
-ghost use Rattle.std.specs.Prelude.{◌≡◌, ◌≢◌, ◌⊎◌, ◌+◌, ◌<◌, ◌≤◌, [], ◌∷◌, ◌++◌, length, map, slice_index_or, vec_capacity, ℕ, IfErr, IfOk, IfSome, IfNone, OnOk, Some};
+ghost use Rattle.std.specs.Prelude.{◌≡◌, ◌≢◌, ◌⊎◌, ◌+◌, ◌<◌, ◌≤◌, [], ◌∷◌, ◌++◌, length, map, sum_by, All, slice_index_or, vec_capacity, ℕ, IfErr, IfOk, IfSome, IfNone, OnErr, OnOk, Some};
 ghost use Rattle.yew_laws.specs.Bag.{SameBag, PartOfBag};
-ghost use Rattle.yew_pool.specs.Passes.{AreSeated, IsSeated, HasTaken, HasLooked, HasLookedRound, new_pass, pass_view};
+ghost use Rattle.yew_pool.specs.Passes.{AreSeated, IsSeated, HasTaken, HasLooked, HasLookedRound, IsLeft, IsPartLeft, new_pass, pass_view};
 ghost use Rattle.yew_pool.specs.Places.{once_more};
 ghost use Rattle.yew_pool.specs.Takes.{IfTask, OnEmpty};
 ghost use Rattle.yew_pool.specs.Tasks.{is_task, IsSoundFor};
 
+use crate::closing::{empty, look_at_shares, merge, order, settle, take_apart};
 use crate::making::{make_deques, make_passes, make_rows};
 use crate::places::{OwnDeque, Place, Thief};
 use std::alloc::Global;
@@ -116,8 +117,9 @@ impl<P: Problem> PoolPass<P> {
     }
 
     // The number of the pass, from 0.
-    fn number(&self) -> usize
-        ensures { (result ≡ self.now.number) × (result < length self.now.pool.deques) }
+    pub fn number(&self) -> usize
+        ensures number { (result ≡ self.now.number) × (result < length self.now.pool.deques) }
+        ensures share { self.now.share ≡ 1 }
     {
         self.number
     }
@@ -264,5 +266,26 @@ impl<P: Problem> Pool<P> {
             Take::Task(task) => Take::Task(task),
             Take::Empty => pass.steal_among(rt, 0, own),
         }
+    }
+
+    /// Ends the pool with all its passes, in any order, and appends the tasks that were put and not taken.
+    ///
+    /// # Errors
+    /// `Memory` where `left` could not grow. It has some of the tasks then, and the others are dropped.
+    pub fn close(self, mut passes: Vec<PoolPass<P>>, left: &mut Vec<Task<P>>) -> Result<(), Memory>
+        requires pool { All (λ pass. pass.pool ≡ self) passes.items }
+        requires all { sum_by (λ pass. pass.share) passes.items ≡ length self.deques }
+        ensures ok { OnOk result (IsLeft (is_task P.Problem) passes.items left.old.items left.new.items) }
+        ensures memory { OnErr result (IsPartLeft (is_task P.Problem) passes.items left.old.items left.new.items) }
+    {
+        if passes.is_empty() {
+            return Ok(());
+        }
+        look_at_shares(&passes);
+        order(&self, &mut passes);
+        let (mut owns, rows) = take_apart(&self, passes);
+        merge(&mut owns, rows);
+        settle(&mut owns);
+        empty(owns, left)
     }
 }
