@@ -1,15 +1,14 @@
 -- The passes are taken apart.
-use Rattle.std.proofs.Common.{◌≡◌, ◌≢◌, ℕ, ◌+◌, ◌<◌, ◌≤◌, ◌∙◌, zero, suc, List, [], ◌∷◌, ◌++◌, length, map, take, get_or, sym, refl, ap, subst, length-append, arith}
-use Rattle.std.specs.Prelude.{All, Option, sum_by}
+use Rattle.std.proofs.Common.{◌≡◌, ℕ, ◌+◌, ◌<◌, ◌≤◌, ◌∙◌, suc, List, [], ◌∷◌, ◌++◌, length, take, get_or, sym, refl, ap, subst, length-append, arith}
+use Rattle.std.specs.Prelude.{All, sum_by}
 use Rattle.std.proofs.lemmas.List.{get_or_append_left, length-map, map-append, take_all, take_more}
-use Rattle.std.proofs.lemmas.List.Elements.{All-push, All-nil, All-pop}
+use Rattle.std.proofs.lemmas.List.Elements.{All-push, All-nil}
 use Rattle.std.proofs.lemmas.List.Sums.{sum_by_push, sum_by-cons, sum_by-append}
 use Rattle.std.proofs.Math.Seq.{get_or-append_seam}
-use native.Mathlib.Decide.{ℕ_discrete}
 use Rattle.yew_laws.proofs.Bags.{sum_by-flat_map}
-use Rattle.yew_pool.specs.Places.{DequeId, PlaceView}
-use Rattle.yew_pool.specs.Closing.{deques, share_of, whole_of, weigh_put, weigh_took, over_rows, IsTakingApart, IsApart}
-use Rattle.yew_pool.specs.Passes.{PassView, PoolId, taken_at, pass_view, IsPlaced, AreSeated}
+use Rattle.yew_pool.specs.Places.{PlaceView}
+use Rattle.yew_pool.specs.Closing.{deques, share_of, weigh_put, weigh_took, IsTakingApart, IsApart}
+use Rattle.yew_pool.specs.Passes.{PassView, PoolId, taken_at, pass_view, AreSeated}
 use Rattle.yew_pool.specs.Ordering.{AreInOrder}
 use Rattle.yew_pool.proofs.Emptying.{All-front, All-last}
 use Rattle.yew_pool.proofs.Taking.{owned}
@@ -43,9 +42,9 @@ module _ {T Q : Type 0} where
       let longer = length-append rest (pass ∷ []) in
       let pool_is : pass.pool ≡ pool = last (λ (p : PassView T Q). p.pool ≡ pool) is.ordered.pools in
       let number_is : pass.number ≡ length owns = (
-          let p = is.ordered.placed (length rest) pass (omega (arith, longer)) in
-          let q = ap (λ (t : PassView T Q). t.number) (get_or-append_seam rest pass [] pass) in let l = is.long in omega (arith, p, q, l, longer)
-          ) in
+      let p = is.ordered.placed (length rest) pass (omega (arith, longer)) in
+      let q = ap (λ (t : PassView T Q). t.number) (get_or-append_seam rest pass [] pass) in let l = is.long in omega (arith, p, q, l, longer)
+      ) in
       let id : get_or pool.deques (length owns) own.deque ≡ own.deque = (λ i. get_or (sym pool_is i).deques (sym number_is i) own.deque) ∙ owned pass.number own row pass own.deque view are in
       let more_ids : length owns < length pool.deques = (let l = is.long in omega (arith, l, longer)) in
       subst (λ (t : List (PlaceView T Q) × List (List (PlaceView T Q))). IsTakingApart pool all rest t.0 t.1) (λ i. (sym owns_are i, sym rows_are i)) record {

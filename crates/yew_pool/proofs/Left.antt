@@ -1,12 +1,11 @@
 -- What closing hands back.
-use Rattle.std.proofs.Common.{◌≡◌, ℕ, ◌+◌, ◌≤◌, ◌∙◌, List, [], ◌∷◌, ◌++◌, length, map, drop, get_or, sym, refl, ap, subst, append-nil, arith}
+use Rattle.std.proofs.Common.{◌≡◌, ℕ, ◌∙◌, List, [], ◌∷◌, length, map, drop, get_or, sym, refl, ap, subst, append-nil, arith}
 use Rattle.std.specs.Prelude.{All, Option, Some, sum_by, Result, Ok, Err, OnOk, OnErr}
 use Rattle.std.proofs.lemmas.List.Elements.{All-cons, All-head, All-nil, All-tail}
 use Rattle.std.proofs.lemmas.List.Sums.{sum_by-append}
-use Rattle.yew_laws.specs.Bag.{SameBag, PartOfBag}
 use Rattle.yew_laws.proofs.Bags.{sum_by-flat_map}
 use Rattle.yew_pool.specs.Places.{PlaceView}
-use Rattle.yew_pool.specs.Closing.{deques, share_of, whole_of, weigh_put, weigh_took, over_rows, IsApart, IsMerging, IsEmptied, IsPartEmptied}
+use Rattle.yew_pool.specs.Closing.{share_of, whole_of, weigh_put, weigh_took, IsApart, IsMerging, IsEmptied, IsPartEmptied}
 use Rattle.yew_pool.specs.Passes.{PassView, PoolId, all_put, all_took, IsLeft, IsPartLeft}
 use Rattle.yew_pool.specs.Ordering.{AreOrdering}
 

@@ -10,3 +10,4 @@ pub mod Seating
 pub mod Order
 pub mod Apart
 pub mod Left
+pub mod Trying

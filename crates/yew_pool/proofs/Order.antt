@@ -1,15 +1,13 @@
 -- The passes are put in order by swaps, each of which brings one to its place.
-use Rattle.std.proofs.Common.{◌≡◌, ◌≢◌, ◌⊎◌, ℕ, ◌+◌, ◌<◌, ◌≤◌, ◌∙◌, zero, suc, Bool, cond, eqb, eq-eqb, ne_eqb, List, [], ◌∷◌, ⊎_elim, length, set, get_or, sym, refl, ap, subst, arith}
-use Rattle.std.specs.Prelude.{All, Option, sum_by}
+use Rattle.std.proofs.Common.{◌≡◌, ◌≢◌, ℕ, ◌+◌, ◌<◌, ◌≤◌, ◌∙◌, zero, suc, Bool, cond, eq-eqb, ne_eqb, List, [], ◌∷◌, length, set, get_or, sym, ap, subst, arith}
+use Rattle.std.specs.Prelude.{All}
 use Rattle.std.specs.List.{swap}
-use Rattle.std.proofs.lemmas.Bool.{cases_lt}
-use Rattle.std.proofs.lemmas.List.{get_or-set_same, get_or-set_other, get_or_default}
+use Rattle.std.proofs.lemmas.List.{get_or-set_other, get_or_default}
 use Rattle.std.proofs.lemmas.List.Edits.{swap_is}
-use Rattle.std.proofs.lemmas.List.Elements.{All-set, All-get_or}
+use Rattle.std.proofs.lemmas.List.Elements.{All-set}
 use Rattle.std.proofs.lemmas.List.Sums.{sum_by-set}
 use Rattle.std.proofs.Math.ListN.{length-set}
 use native.Mathlib.Decide.{ℕ_discrete}
-use Rattle.yew_laws.specs.Bag.{SameBag}
 use Rattle.yew_laws.proofs.Bags.{same-refl}
 use Rattle.yew_pool.specs.Passes.{PassView, PoolId}
 use Rattle.yew_pool.specs.Ordering.{off_place, misplaced, AreInOrder, AreOrdering}

@@ -1,16 +1,14 @@
 -- The owners and the rows of places become passes.
-use Rattle.std.proofs.Common.{◌≡◌, ◌≢◌, ℕ, ◌+◌, ◌-◌, ◌<◌, ◌≤◌, ◌∙◌, zero, suc, List, [], ◌∷◌, ◌++◌, length, map, replicate, get_or, sym, refl, ap, subst, ext_get_or, length-append, arith}
-use Rattle.std.specs.Prelude.{Option, false, sum_by, insert}
-use Rattle.std.specs.List.{flat_map}
+use Rattle.std.proofs.Common.{◌≡◌, ℕ, ◌+◌, ◌<◌, ◌∙◌, zero, suc, List, [], ◌∷◌, ◌++◌, length, map, replicate, get_or, sym, refl, ap, subst, ext_get_or, length-append, arith}
+use Rattle.std.specs.Prelude.{Option, insert}
 use Rattle.std.proofs.lemmas.List.{get_or_append_left, get_or_default, length-map}
 use Rattle.std.proofs.Math.Seq.{get_or-append_seam}
 use native.Mathlib.Decide.{ℕ_discrete}
 use Rattle.yew_pool.specs.declared.rule.Hand.{Hand}
-use Rattle.yew_pool.specs.Rule.{hand, spent}
 use Rattle.yew_pool.specs.Places.{DequeId, PlaceView}
 use Rattle.yew_pool.specs.Closing.{deques}
-use Rattle.yew_pool.specs.Passes.{PassView, taken_at, pass_view, IsPlaced, AreSeated, new_pass}
-use Rattle.yew_pool.specs.Making.{whole_among, IsOwner, AreOwners, IsNewPlace, IsRow, AreRows, IsRowing, IsReady, AreReady, AreMade, IsSeating}
+use Rattle.yew_pool.specs.Passes.{PassView, taken_at, pass_view, IsPlaced, new_pass}
+use Rattle.yew_pool.specs.Making.{whole_among, IsOwner, IsNewPlace, IsRow, IsRowing, IsReady, AreReady, AreMade, IsSeating}
 use Rattle.yew_pool.proofs.Starting.{id_at}
 
 module _ {T Q : Type 0} where
@@ -103,9 +101,9 @@ module _ {T Q : Type 0} where
       → more ≡ rest ++ own ∷ [] → more_rows ≡ rest_rows ++ row ∷ [] → IsReady problem (length rest) ids own row
   seats_at problem ids more rest more_rows rest_rows passes own row is e f =
       let long : length rest_rows ≡ length rest = (
-          let l = is.ready.long in let a = ap (λ (l : List (PlaceView T Q)). length l) e in let b = ap (λ (l : List (List (PlaceView T Q))). length l) f in
-          omega (arith, l, a, b, length-append rest (own ∷ []), length-append rest_rows (row ∷ []))
-          ) in
+      let l = is.ready.long in let a = ap (λ (l : List (PlaceView T Q)). length l) e in let b = ap (λ (l : List (List (PlaceView T Q))). length l) f in
+      omega (arith, l, a, b, length-append rest (own ∷ []), length-append rest_rows (row ∷ []))
+      ) in
       let own_is : get_or more (length rest) own ≡ own = ap (λ (l : List (PlaceView T Q)). get_or l (length rest) own) e ∙ get_or-append_seam rest own [] own in
       let row_is : get_or more_rows (length rest) row ≡ row = ap (λ (l : List (List (PlaceView T Q))). get_or l (length rest) row) f ∙ (ap (λ j. get_or (rest_rows ++ row ∷ []) j row) (sym long) ∙ get_or-append_seam rest_rows row [] row) in
       subst (λ (t : PlaceView T Q × List (PlaceView T Q)). IsReady problem (length rest) ids t.0 t.1) (λ i. (own_is i, row_is i))

@@ -1,7 +1,6 @@
 -- A pool is made.
-use Rattle.std.proofs.Common.{◌≡◌, ◌≢◌, ◌⊎◌, ℕ, ◌+◌, ◌-◌, ◌<◌, ◌≤◌, ◌∙◌, zero, suc, List, [], ◌∷◌, ◌++◌, inl, inr, ⊎_elim, length, map, set, replicate, get_or, sym, refl, ap, subst, ext_get_or, length-append, arith}
-use Rattle.std.specs.Prelude.{All, Option, false, sum_by}
-use Rattle.std.specs.List.{flat_map}
+use Rattle.std.proofs.Common.{◌≡◌, ◌≢◌, ℕ, ◌+◌, ◌<◌, ◌≤◌, ◌∙◌, List, [], ◌∷◌, ◌++◌, ⊎_elim, length, set, get_or, sym, refl, ap, subst, length-append, arith}
+use Rattle.std.specs.Prelude.{Option, false, sum_by}
 use Rattle.std.proofs.lemmas.Bool.{cases_lt}
 use Rattle.std.proofs.lemmas.List.{get_or_append_left, get_or-set_same, get_or-set_other, get_or-map, get_or_default, length-map, map-append}
 use Rattle.std.proofs.lemmas.List.Elements.{All-push, All-nil}
@@ -13,8 +12,7 @@ use Rattle.yew_pool.specs.declared.rule.Hand.{Hand}
 use Rattle.yew_pool.specs.Rule.{hand, started, spent, left_of, right_of}
 use Rattle.yew_pool.specs.Places.{DequeId, PlaceView}
 use Rattle.yew_pool.specs.Closing.{deques}
-use Rattle.yew_pool.specs.Passes.{PassView, deques_of, taken_at, pass_view, IsPlaced, AreSeated, new_pass}
-use Rattle.yew_pool.specs.Making.{whole_among, AreOpened, IsOwner, AreOwners, IsNewPlace, IsRow, IsLaying, AreRows, IsRowing, IsReady, AreReady, AreMade, IsSeating}
+use Rattle.yew_pool.specs.Making.{whole_among, AreOpened, IsOwner, AreOwners, IsNewPlace, IsRow, IsLaying, IsRowing}
 
 pub at_front : {X : Type 0} (P : X → Type 0) (xs : List X) (x d : X) (k : ℕ) → k < length xs → P (get_or xs k d) → P (get_or (xs ++ x ∷ []) k d)
 at_front P xs x d k below p = subst P (sym (get_or_append_left xs (x ∷ []) d k below)) p

@@ -1,7 +1,6 @@
 -- What a take does to a pass.
-use Rattle.std.proofs.Common.{◌≡◌, ◌≢◌, ℕ, ◌+◌, ◌<◌, ◌≤◌, ◌∙◌, zero, suc, List, [], ◌∷◌, ◌++◌, length, map, set, get_or, sym, refl, ap, subst, arith}
+use Rattle.std.proofs.Common.{◌≡◌, ◌≢◌, ℕ, ◌+◌, ◌<◌, ◌∙◌, suc, List, [], ◌∷◌, ◌++◌, length, map, set, get_or, sym, refl, ap, subst, arith}
 use Rattle.std.specs.Prelude.{Option, Some, None, IfSome, IfNone, sum_by}
-use Rattle.std.specs.List.{flat_map}
 use Rattle.std.proofs.lemmas.List.{get_or-set_same, get_or-set_other, get_or-map, get_or_default, set-get_or, length-map}
 use Rattle.std.proofs.lemmas.List.Sums.{sum_by_push, sum_by-cons, sum_by-append, sum_by-set}
 use Rattle.std.proofs.Math.Seq.{map-set_same}
@@ -12,7 +11,7 @@ use Rattle.yew_laws.proofs.Bags.{sum_by-flat_map}
 use Rattle.yew_pool.specs.Rule.{has_taken, Balances}
 use Rattle.yew_pool.specs.declared.rule.Hand.{Hand}
 use Rattle.yew_pool.specs.Places.{DequeId, PlaceView, once_more}
-use Rattle.yew_pool.specs.Passes.{PassView, deques_of, taken_at, pass_view, IsPlaced, AreSeated, IsSeated, HasTaken}
+use Rattle.yew_pool.specs.Passes.{PassView, taken_at, pass_view, IsPlaced, AreSeated, IsSeated, HasTaken}
 use Rattle.yew_pool.specs.Tasks.{IsSoundFor}
 
 module _ {T Q : Type 0} where
@@ -193,14 +192,14 @@ module _ {T Q : Type 0} where
   stole number at own places p x within is = record {
     long = let l = length-set places at (taken p x) in length-map (set places at (taken p x)) (λ (t : PlaceView T Q). t.found_empty) ∙ (l ∙ sym (length-map places (λ (t : PlaceView T Q). t.found_empty)));
     same = ap (λ l. record {
-        pool = record { deques = l };
-        number = number;
-        share = 1;
-        problem = own.hand.problem;
-        put = own.hand.put;
-        took = own.hand.took ++ taken_at (set places at (taken p x));
-        found_empty = map (λ (t : PlaceView T Q). t.found_empty) (set places at (taken p x));
-      })
+      pool = record { deques = l };
+      number = number;
+      share = 1;
+      problem = own.hand.problem;
+      put = own.hand.put;
+      took = own.hand.took ++ taken_at (set places at (taken p x));
+      found_empty = map (λ (t : PlaceView T Q). t.found_empty) (set places at (taken p x));
+    })
         (map-set_same (λ (t : PlaceView T Q). t.deque) places at (taken p x) p (sym (ap (λ (t : PlaceView T Q). t.deque) is)));
     took = record {
       weighs = λ h. (

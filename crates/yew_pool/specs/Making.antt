@@ -1,9 +1,9 @@
 -- How a pool is made: the owners of its deques give a place at each deque to every other pass.
-use Rattle.std.specs.Prelude.{◌≡◌, ◌≢◌, ℕ, ◌+◌, ◌-◌, ◌<◌, ◌≤◌, List, [], ◌∷◌, length, All, sum_by, slice_index_or, Option, false}
+use Rattle.std.specs.Prelude.{◌≡◌, ◌≢◌, ℕ, ◌+◌, ◌-◌, ◌<◌, ◌≤◌, List, [], length, All, sum_by, slice_index_or, Option, false}
 use Rattle.yew_pool.specs.Rule.{hand, started, spent}
 use Rattle.yew_pool.specs.Places.{DequeId, PlaceView}
 use Rattle.yew_pool.specs.Closing.{deques}
-use Rattle.yew_pool.specs.Passes.{PassView, PoolId, pass_view, AreSeated, new_pass}
+use Rattle.yew_pool.specs.Passes.{PassView, pass_view, AreSeated, new_pass}
 
 -- the whole share of a deque among so many passes: its owner keeps one for each pass, and each other pass has one
 abbrev pub whole_among : ℕ → ℕ

@@ -33,7 +33,11 @@ pub fn make_deques<P: Problem>(
 }
 
 // A place at the deque with a number, for the pass with a number: the owner's has no share.
-fn make_place<P: Problem>(own: &mut OwnDeque<P>, at: usize, number: usize) -> Result<Place<P>, Memory>
+fn make_place<P: Problem>(
+    own: &mut OwnDeque<P>,
+    at: usize,
+    number: usize,
+) -> Result<Place<P>, Memory>
     requires { at ≢ number → 1 < own.old.hand.share }
     ensures own { OnOk result ((at ≡ number → own.new ≡ own.old) × (at ≢ number → own.new ≡ record own.old { hand = left_of own.old.hand })) }
     ensures idle { IfOk result (λ place. at ≡ number → place ≡ record { deque = own.old.deque; hand = spent; found_empty = 0 }) }

@@ -54,7 +54,7 @@ impl<P: Problem> Model for PoolPass<P> {
 /// Room for the deques and the places of all passes, so that `close` takes no memory to take the passes apart.
 /// Contracts see for how many passes it is.
 #[derive(Drop)]
-pub struct Room<P: Problem> {
+pub(crate) struct Room<P: Problem> {
     owns: Vec<OwnDeque<P>>,
     rows: Vec<Vec<Place<P>>>,
 }
@@ -71,7 +71,7 @@ impl<P: Problem> Model for Room<P> {
 }
 
 impl<P: Problem> Room<P> {
-    pub fn new(alloc: Global, passes: usize) -> Result<Room<P>, Memory>
+    pub(crate) fn new(alloc: Global, passes: usize) -> Result<Room<P>, Memory>
         ensures { IfOk result (λ room. room ≡ passes) }
     {
         let owns = Vec::with_capacity(alloc, passes)?;
@@ -79,7 +79,7 @@ impl<P: Problem> Room<P> {
         Ok(Room { owns, rows })
     }
 
-    pub fn into_vecs(self) -> (Vec<OwnDeque<P>>, Vec<Vec<Place<P>>>)
+    pub(crate) fn into_vecs(self) -> (Vec<OwnDeque<P>>, Vec<Vec<Place<P>>>)
         ensures empty { (result.0.items ≡ []) × (result.1.items ≡ []) }
         ensures room { (self ≤ vec_capacity result.0) × (self ≤ vec_capacity result.1) }
     {
@@ -103,7 +103,12 @@ pub enum Take<P: Problem> {
 
 impl<P: Problem> PoolPass<P> {
     // A new pass, of a deque and the places at all deques.
-    pub fn seated(number: usize, own: OwnDeque<P>, places: Vec<Place<P>>, room: Room<P>) -> PoolPass<P>
+    pub(crate) fn seated(
+        number: usize,
+        own: OwnDeque<P>,
+        places: Vec<Place<P>>,
+        room: Room<P>,
+    ) -> PoolPass<P>
         requires seated { AreSeated number own places.items }
         requires room { length places.items ≤ room }
         ensures { result ≡ pass_view number own places.items }
@@ -117,7 +122,7 @@ impl<P: Problem> PoolPass<P> {
     }
 
     // The number of the pass, from 0.
-    pub fn number(&self) -> usize
+    pub(crate) fn number(&self) -> usize
         ensures number { (result ≡ self.now.number) × (result < length self.now.pool.deques) }
         ensures share { self.now.share ≡ 1 }
     {
@@ -125,14 +130,14 @@ impl<P: Problem> PoolPass<P> {
     }
 
     // Its place among all passes, where the last comes first.
-    pub fn place(&self) -> usize
+    pub(crate) fn place(&self) -> usize
         ensures { self.now.number + result + 1 ≡ length self.now.pool.deques }
     {
         self.places.len() - 1 - self.number
     }
 
     // Two passes with one number would be two owners of one deque.
-    pub fn meet(self, other: PoolPass<P>)
+    pub(crate) fn meet(self, other: PoolPass<P>)
         requires pool { other.pool ≡ self.pool }
         requires number { other.number ≡ self.number }
         ensures { ⊥ }
@@ -153,7 +158,7 @@ impl<P: Problem> PoolPass<P> {
     }
 
     // The deque, the places at all deques, and the room.
-    pub fn into_parts(self) -> (OwnDeque<P>, Vec<Place<P>>, Room<P>)
+    pub(crate) fn into_parts(self) -> (OwnDeque<P>, Vec<Place<P>>, Room<P>)
         ensures seated { IsSeated self.number result.0 result.1.items result.2 }
         ensures view { pass_view self.number result.0 result.1.items ≡ self }
     {
@@ -210,7 +215,11 @@ impl<P: Problem> Pool<P> {
     ///
     /// # Errors
     /// `Memory` where memory ran out.
-    pub fn new(alloc: Global, problem: &P, passes: u32) -> Result<(Pool<P>, Vec<PoolPass<P>>), Memory>
+    pub fn new(
+        alloc: Global,
+        problem: &P,
+        passes: u32,
+    ) -> Result<(Pool<P>, Vec<PoolPass<P>>), Memory>
         requires { (0 < passes) × (passes ≤ 64) }
         ensures pool { IfOk result (λ r. length r.0.deques ≡ passes) }
         ensures count { IfOk result (λ r. length r.1.items ≡ passes) }

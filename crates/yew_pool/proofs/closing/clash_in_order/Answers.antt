@@ -1,4 +1,4 @@
-use Rattle.std.proofs.Common.{◌≡◌, ◌≢◌, ◌<◌, ◌+◌, get_or, ◌∙◌, sym, ap, arith}
+use Rattle.std.proofs.Common.{◌∙◌, sym, ap, arith}
 use Rattle.yew_pool.specs.Passes.{PassView}
 use Rattle.yew_pool.proofs.closing.clash_in_order.Goals as goal
 

@@ -1,4 +1,4 @@
-use Rattle.std.specs.Prelude.{ℕ, ◌+◌, ◌-◌, ◌≤◌, length, vec_len}
+use Rattle.std.specs.Prelude.{◌+◌, ◌-◌, ◌≤◌, length}
 use Rattle.yew_pool.specs.Ordering.{misplaced, AreOrdering}
 use Rattle.yew_pool.proofs.closing.order.Given as goal
 

@@ -1,5 +1,4 @@
-use Rattle.std.proofs.Common.{◌≡◌, ◌∙◌, List, [], ◌∷◌, ◌++◌, length, map, ap, arith}
-use Rattle.yew_pool.specs.Places.{PlaceView}
+use Rattle.std.proofs.Common.{◌∙◌, List, [], ◌∷◌, ◌++◌, map, ap, arith}
 use Rattle.yew_pool.proofs.Merging.{popped_rows}
 use Rattle.yew_pool.proofs.Apart.{apart_begins, apart_more, apart_ends, has_room}
 use Rattle.yew_pool.proofs.Left.{no_length}

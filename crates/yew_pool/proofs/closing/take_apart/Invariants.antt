@@ -1,4 +1,4 @@
-use Rattle.std.specs.Prelude.{ℕ, ◌≤◌, length, map, vec_len, vec_capacity}
+use Rattle.std.specs.Prelude.{◌≤◌, length, map, vec_len, vec_capacity}
 use Rattle.yew_pool.specs.Closing.{IsTakingApart}
 use Rattle.yew_pool.proofs.closing.take_apart.Given as goal
 
@@ -7,7 +7,7 @@ invariant-loop-pass g l =
     record {
       apart : IsTakingApart l.pool l.fn.passes.items l.passes.items l.owns.items (map (λ row. row.items) l.rows.items);
       owns_room : length l.pool.deques ≤ vec_capacity l.owns;
-      rows_room : length l.pool.deques ≤ vec_capacity l.rows
+      rows_room : length l.pool.deques ≤ vec_capacity l.rows;
     }
 
 abbrev pub decreases-loop-pass : goal.decreases-loop-pass

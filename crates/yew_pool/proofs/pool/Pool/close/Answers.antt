@@ -1,4 +1,4 @@
-use Rattle.std.proofs.Common.{◌≡◌, ◌∙◌, List, length, map, sym, subst, arith, eqb-true}
+use Rattle.std.proofs.Common.{◌∙◌, List, length, map, sym, subst, eqb-true}
 use Rattle.yew_pool.specs.Closing.{IsEmptied, IsPartEmptied}
 use Rattle.yew_pool.specs.Places.{PlaceView}
 use Rattle.yew_pool.specs.Tasks.{is_task}
@@ -17,9 +17,9 @@ returns-clause-ok g c =
     let before = c.args.left.now.items in let after = c.empty.new.left.items in
     on_ok c.empty.result
     (λ (h : IsEmptied (is_task g.P.Problem) c.settle.new.owns.items before after).
-        left_all (is_task g.P.Problem) c.args.self (length c.args.self.deques) (length c.args.self.deques) c.args.passes.items c.order.new.passes.items c.take_apart-owns.result.0.items c.merge.new.owns.items
-        (map (λ row. row.items) c.take_apart-owns.result.1.items) before after c.order.ensures.same c.take_apart-owns.ensures c.merge.ensures
-        (subst (λ (l : List (PlaceView _ _)). IsEmptied (is_task g.P.Problem) l before after) c.settle.ensures.same h))
+    left_all (is_task g.P.Problem) c.args.self (length c.args.self.deques) (length c.args.self.deques) c.args.passes.items c.order.new.passes.items c.take_apart-owns.result.0.items c.merge.new.owns.items
+    (map (λ row. row.items) c.take_apart-owns.result.1.items) before after c.order.ensures.same c.take_apart-owns.ensures c.merge.ensures
+    (subst (λ (l : List (PlaceView _ _)). IsEmptied (is_task g.P.Problem) l before after) c.settle.ensures.same h))
     c.empty.ensures.ok
 
 pub returns-clause-memory : goal.returns-clause-memory
@@ -27,7 +27,7 @@ returns-clause-memory g c =
     let before = c.args.left.now.items in let after = c.empty.new.left.items in
     on_err c.empty.result
     (λ (h : IsPartEmptied (is_task g.P.Problem) c.settle.new.owns.items before after).
-        left_part (is_task g.P.Problem) c.args.self (length c.args.self.deques) (length c.args.self.deques) c.args.passes.items c.order.new.passes.items c.take_apart-owns.result.0.items c.merge.new.owns.items
-        (map (λ row. row.items) c.take_apart-owns.result.1.items) before after c.order.ensures.same c.take_apart-owns.ensures c.merge.ensures
-        (subst (λ (l : List (PlaceView _ _)). IsPartEmptied (is_task g.P.Problem) l before after) c.settle.ensures.same h))
+    left_part (is_task g.P.Problem) c.args.self (length c.args.self.deques) (length c.args.self.deques) c.args.passes.items c.order.new.passes.items c.take_apart-owns.result.0.items c.merge.new.owns.items
+    (map (λ row. row.items) c.take_apart-owns.result.1.items) before after c.order.ensures.same c.take_apart-owns.ensures c.merge.ensures
+    (subst (λ (l : List (PlaceView _ _)). IsPartEmptied (is_task g.P.Problem) l before after) c.settle.ensures.same h))
     c.empty.ensures.err
