@@ -89,7 +89,11 @@ fn child<P: Problem>(alloc: Global, problem: &P, number: u32) -> Result<Option<T
 }
 
 /// A pool and its passes.
-fn made<P: Problem>(alloc: Global, problem: &P, passes: u32) -> Result<(Pool<P>, Vec<PoolPass<P>>), Memory>
+fn made<P: Problem>(
+    alloc: Global,
+    problem: &P,
+    passes: u32,
+) -> Result<(Pool<P>, Vec<PoolPass<P>>), Memory>
     requires { (0 < passes) × (passes ≤ 64) }
     ensures count { IfOk result (λ r. length r.0.deques ≡ passes) }
     ensures passes { IfOk result (λ r. ArePassesFor r.0 (Some problem.now) r.1.items) }
@@ -98,7 +102,11 @@ fn made<P: Problem>(alloc: Global, problem: &P, passes: u32) -> Result<(Pool<P>,
 }
 
 /// The last pass of a list.
-fn last<P: Problem>(pool: &Pool<P>, problem: &P, passes: &mut Vec<PoolPass<P>>) -> Result<PoolPass<P>, Memory>
+fn last<P: Problem>(
+    pool: &Pool<P>,
+    problem: &P,
+    passes: &mut Vec<PoolPass<P>>,
+) -> Result<PoolPass<P>, Memory>
     requires { ArePassesFor pool.now (Some problem.now) passes.old.items }
     ensures rest { ArePassesFor pool.now (Some problem.now) passes.new.items }
     ensures last { IfOk result (IsPassFor pool.now (Some problem.now)) }
@@ -137,7 +145,12 @@ fn number_of<P: Problem>(task: &Task<P>) -> u32 {
 }
 
 /// Takes a task, and answers the number of the child.
-fn take<P: Problem, R: Wait>(rt: &R, problem: &P, pool: &Pool<P>, pass: &mut PoolPass<P>) -> Option<u32>
+fn take<P: Problem, R: Wait>(
+    rt: &R,
+    problem: &P,
+    pool: &Pool<P>,
+    pass: &mut PoolPass<P>,
+) -> Option<u32>
     requires { IsPassFor pool.now (Some problem.now) pass.old }
     ensures { IsPassFor pool.now (Some problem.now) pass.new }
 {
@@ -210,6 +223,309 @@ fn two_passes_take_in_turn(rt: HostRuntime) -> Result<(), Fail> {
         let (taken, left) = two_passes(&rt, rt.alloc(), &Flat { width: 3 }, turned)?;
         assert_eq!(rt; taken.as_slice(), [Some(0), Some(1), None].as_slice());
         assert_eq!(rt; left.as_slice(), [2].as_slice());
+    }
+    Ok(())
+}
+
+/// Puts the tasks of so many children, and counts what was refused.
+fn fill<P: Problem>(
+    alloc: Global,
+    problem: &P,
+    pool: &Pool<P>,
+    mut pass: PoolPass<P>,
+    first: u32,
+    refusals: &AtomicU64,
+) -> PoolPass<P>
+    requires root { P.sound problem.now (P.root problem.now) }
+    requires pass { IsPassFor pool.now (Some problem.now) pass }
+    ensures { IsPassFor pool.now (Some problem.now) result }
+{
+    for step in 0..1000u32 {
+        if put(alloc, problem, pool, &mut pass, first.wrapping_add(step)).is_err() {
+            refusals.fetch_add(1, Ordering::SeqCst);
+        }
+    }
+    pass
+}
+
+/// Takes at most so many tasks, in at most ten times as many tries, and counts how often each child was taken.
+fn drain<P: Problem, R: Wait>(
+    rt: &R,
+    problem: &P,
+    pool: &Pool<P>,
+    mut pass: PoolPass<P>,
+    most: u32,
+    counts: &[AtomicU64],
+) -> PoolPass<P>
+    requires { IsPassFor pool.now (Some problem.now) pass }
+    ensures { IsPassFor pool.now (Some problem.now) result }
+{
+    let mut taken = 0u32;
+    for _ in 0..most.saturating_mul(10) {
+        if taken == most {
+            break;
+        }
+        match take(rt, problem, pool, &mut pass) {
+            Some(number) => {
+                taken = taken.saturating_add(1);
+                count(counts, number);
+            }
+            None => yield_now(),
+        }
+    }
+    pass
+}
+
+/// Counts a child.
+fn count(counts: &[AtomicU64], number: u32) {
+    if let Some(count) = counts.get(number as usize) {
+        count.fetch_add(1, Ordering::SeqCst);
+    }
+}
+
+/// Puts the tasks of 250 children, and takes a task after each.
+fn mix<P: Problem, R: Wait>(
+    rt: &R,
+    alloc: Global,
+    problem: &P,
+    pool: &Pool<P>,
+    mut pass: PoolPass<P>,
+    first: u32,
+    refusals: &AtomicU64,
+    counts: &[AtomicU64],
+) -> PoolPass<P>
+    requires root { P.sound problem.now (P.root problem.now) }
+    requires pass { IsPassFor pool.now (Some problem.now) pass }
+    ensures { IsPassFor pool.now (Some problem.now) result }
+{
+    for step in 0..250u32 {
+        if put(alloc, problem, pool, &mut pass, first.wrapping_add(step)).is_err() {
+            refusals.fetch_add(1, Ordering::SeqCst);
+        }
+        if let Some(number) = take(rt, problem, pool, &mut pass) {
+            count(counts, number);
+        }
+    }
+    pass
+}
+
+/// One thread puts, and another takes.
+fn fill_and_drain<P: Problem, R: Threads + Wait + Sync>(
+    rt: &R,
+    alloc: Global,
+    problem: &P,
+    pool: &Pool<P>,
+    passes: (PoolPass<P>, PoolPass<P>),
+    first: u32,
+    refusals: &AtomicU64,
+    counts: &[AtomicU64],
+) -> (PoolPass<P>, PoolPass<P>)
+    requires root { P.sound problem.now (P.root problem.now) }
+    requires one { IsPassFor pool.now (Some problem.now) passes.0 }
+    requires two { IsPassFor pool.now (Some problem.now) passes.1 }
+    ensures { IsPassFor pool.now (Some problem.now) result.0 × IsPassFor pool.now (Some problem.now) result.1 }
+{
+    let (one, two) = passes;
+    join(
+        rt,
+        move || fill(alloc, problem, pool, one, first, refusals),
+        move || drain(rt, problem, pool, two, 900, counts),
+    )
+}
+
+/// Two threads put 1,000 tasks each, and two others take at most 900 each. Answers the passes.
+fn four_threads<P: Problem, R: Threads + Wait + Sync>(
+    rt: &R,
+    alloc: Global,
+    problem: &P,
+    pool: &Pool<P>,
+    mut passes: Vec<PoolPass<P>>,
+    refusals: &AtomicU64,
+    counts: &[AtomicU64],
+) -> Result<Vec<PoolPass<P>>, Memory>
+    requires root { P.sound problem.now (P.root problem.now) }
+    requires passes { ArePassesFor pool.now (Some problem.now) passes.items }
+    ensures { IfOk result (λ passes. ArePassesFor pool.now (Some problem.now) passes.items) }
+{
+    let one = last(pool, problem, &mut passes)?;
+    let two = last(pool, problem, &mut passes)?;
+    let three = last(pool, problem, &mut passes)?;
+    let four = last(pool, problem, &mut passes)?;
+    let ((one, two), (three, four)) = join(
+        rt,
+        move || fill_and_drain(rt, alloc, problem, pool, (one, two), 0, refusals, counts),
+        move || fill_and_drain(
+            rt,
+            alloc,
+            problem,
+            pool,
+            (three, four),
+            1000,
+            refusals,
+            counts,
+        ),
+    );
+    passes.push(one)?;
+    passes.push(two)?;
+    passes.push(three)?;
+    passes.push(four)?;
+    Ok(passes)
+}
+
+/// Two threads put and take.
+fn mix_two<P: Problem, R: Threads + Wait + Sync>(
+    rt: &R,
+    alloc: Global,
+    problem: &P,
+    pool: &Pool<P>,
+    passes: (PoolPass<P>, PoolPass<P>),
+    first: u32,
+    refusals: &AtomicU64,
+    counts: &[AtomicU64],
+) -> (PoolPass<P>, PoolPass<P>)
+    requires root { P.sound problem.now (P.root problem.now) }
+    requires one { IsPassFor pool.now (Some problem.now) passes.0 }
+    requires two { IsPassFor pool.now (Some problem.now) passes.1 }
+    ensures { IsPassFor pool.now (Some problem.now) result.0 × IsPassFor pool.now (Some problem.now) result.1 }
+{
+    let (one, two) = passes;
+    let second = first.wrapping_add(250);
+    join(
+        rt,
+        move || mix(rt, alloc, problem, pool, one, first, refusals, counts),
+        move || mix(rt, alloc, problem, pool, two, second, refusals, counts),
+    )
+}
+
+/// Four threads put and take. Answers the passes.
+fn mix_four<P: Problem, R: Threads + Wait + Sync>(
+    rt: &R,
+    alloc: Global,
+    problem: &P,
+    pool: &Pool<P>,
+    mut passes: Vec<PoolPass<P>>,
+    first: u32,
+    refusals: &AtomicU64,
+    counts: &[AtomicU64],
+) -> Result<Vec<PoolPass<P>>, Memory>
+    requires root { P.sound problem.now (P.root problem.now) }
+    requires passes { ArePassesFor pool.now (Some problem.now) passes.items }
+    ensures { IfOk result (λ passes. ArePassesFor pool.now (Some problem.now) passes.items) }
+{
+    let one = last(pool, problem, &mut passes)?;
+    let two = last(pool, problem, &mut passes)?;
+    let three = last(pool, problem, &mut passes)?;
+    let four = last(pool, problem, &mut passes)?;
+    let second = first.wrapping_add(500);
+    let ((one, two), (three, four)) = join(
+        rt,
+        move || mix_two(
+            rt,
+            alloc,
+            problem,
+            pool,
+            (one, two),
+            first,
+            refusals,
+            counts,
+        ),
+        move || mix_two(
+            rt,
+            alloc,
+            problem,
+            pool,
+            (three, four),
+            second,
+            refusals,
+            counts,
+        ),
+    );
+    passes.push(one)?;
+    passes.push(two)?;
+    passes.push(three)?;
+    passes.push(four)?;
+    Ok(passes)
+}
+
+/// Eight threads put and take. Answers the passes.
+fn eight_threads<P: Problem, R: Threads + Wait + Sync>(
+    rt: &R,
+    alloc: Global,
+    problem: &P,
+    pool: &Pool<P>,
+    mut passes: Vec<PoolPass<P>>,
+    refusals: &AtomicU64,
+    counts: &[AtomicU64],
+) -> Result<Vec<PoolPass<P>>, Memory>
+    requires root { P.sound problem.now (P.root problem.now) }
+    requires passes { ArePassesFor pool.now (Some problem.now) passes.items }
+    ensures { IfOk result (λ passes. ArePassesFor pool.now (Some problem.now) passes.items) }
+{
+    let mut front = Vec::new(alloc);
+    for _ in 0..4u8 {
+        front.push(last(pool, problem, &mut passes)?)?;
+    }
+    let (front, back) = join(
+        rt,
+        move || mix_four(rt, alloc, problem, pool, front, 0, refusals, counts),
+        move || mix_four(rt, alloc, problem, pool, passes, 1000, refusals, counts),
+    );
+    let (mut front, mut back) = (front?, back?);
+    for _ in 0..4u8 {
+        front.push(last(pool, problem, &mut back)?)?;
+    }
+    Ok(front)
+}
+
+/// Runs threads over the tasks of 2,000 children, and answers how many refusals there were, and whether each task was
+/// taken or left once.
+fn each_once<P: Problem, R: Threads + Wait + Sync>(
+    rt: &R,
+    alloc: Global,
+    problem: &P,
+    eight: bool,
+) -> Result<(u64, bool), Memory>
+    requires { P.sound problem.now (P.root problem.now) }
+{
+    let refusals = AtomicU64::new(0);
+    let mut counts = Vec::new(alloc);
+    for _ in 0..2000u32 {
+        counts.push(AtomicU64::new(0))?;
+    }
+    let left = if eight {
+        let (pool, passes) = made(alloc, problem, 8)?;
+        let passes = eight_threads(rt, alloc, problem, &pool, passes, &refusals, &counts)?;
+        close(alloc, problem, pool, passes, 8)?
+    } else {
+        let (pool, passes) = made(alloc, problem, 4)?;
+        let passes = four_threads(rt, alloc, problem, &pool, passes, &refusals, &counts)?;
+        close(alloc, problem, pool, passes, 4)?
+    };
+    for number in left.iter() {
+        count(&counts, *number);
+    }
+    let once = counts.iter().all(|count| count.load(Ordering::SeqCst) == 1);
+    Ok((refusals.load(Ordering::SeqCst), once))
+}
+
+#[test]
+fn no_task_is_lost_between_four_threads(rt: HostRuntime) -> Result<(), Fail> {
+    for _ in 0..30u8 {
+        assert_eq!(rt;
+            each_once(&rt, rt.alloc(), &Flat { width: 2000 }, false)?,
+            (0, true)
+        );
+    }
+    Ok(())
+}
+
+#[test]
+fn no_task_is_lost_between_eight_threads(rt: HostRuntime) -> Result<(), Fail> {
+    for _ in 0..30u8 {
+        assert_eq!(rt;
+            each_once(&rt, rt.alloc(), &Flat { width: 2000 }, true)?,
+            (0, true)
+        );
     }
     Ok(())
 }
