@@ -1,5 +1,5 @@
 -- All passes are put together, deque by deque, and each deque is emptied.
-use Rattle.std.proofs.Common.{◌≡◌, ℕ, ◌+◌, ◌<◌, ◌≤◌, ◌∙◌, ◌-◌, zero, suc, List, [], ◌∷◌, ◌++◌, length, map, set, get_or, sym, refl, ap, subst, append_assoc, append-nil, length-append, arith}
+use Rattle.std.proofs.Common.{◌≡◌, ℕ, ◌+◌, ◌<◌, ◌≤◌, ◌∙◌, ◌-◌, zero, suc, List, [], ◌∷◌, ◌++◌, length, set, get_or, sym, refl, ap, subst, append_assoc, append-nil, length-append, arith}
 use Rattle.std.specs.Prelude.{All, sum_by}
 use Rattle.std.proofs.lemmas.List.Elements.{All-push, All-nil}
 use Rattle.std.proofs.lemmas.List.Sums.{sum_by_push, sum_by-cons, sum_by-append, sum_by-set}
@@ -8,9 +8,9 @@ use Rattle.std.proofs.lemmas.List.{map-append, get_or_append_left}
 use Rattle.std.proofs.Math.Seq.{get_or-append_seam}
 use native.Mathlib.Decide.{ℕ_discrete}
 use Rattle.yew_laws.specs.Bag.{SameBag, PartOfBag}
-use Rattle.yew_pool.specs.Rule.{both_of, has_taken, Balances}
+use Rattle.yew_pool.specs.Rule.{both_of, Balances}
 use Rattle.yew_pool.specs.Places.{DequeId, PlaceView}
-use Rattle.yew_pool.specs.Closing.{deques, share_of, whole_of, weigh_put, weigh_took, IsFolding, IsDraining, Settled, AreSettled}
+use Rattle.yew_pool.specs.Closing.{deques, share_of, whole_of, IsFolding, IsDraining, Settled, AreSettled}
 use Rattle.yew_pool.proofs.Taking.{taken}
 
 tail : {X : Type 0} → List X → List X

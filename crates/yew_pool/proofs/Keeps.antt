@@ -1,17 +1,16 @@
 -- Each step of a pass keeps the rule of a deque.
-use Rattle.std.proofs.Common.{length-append, ◌≡◌, ℕ, ◌+◌, ◌-◌, ◌<◌, ◌≤◌, ◌≢◌, ◌⊎◌, ◌∙◌, Bool, true, false, List, [], ◌∷◌, ◌++◌, length, get_or, set, refl, sym, ap, subst, inl, inr, ⊎_elim, arith, zero, suc}
+use Rattle.std.proofs.Common.{length-append, ◌≡◌, ℕ, ◌+◌, ◌<◌, ◌≢◌, ◌∙◌, true, false, List, [], ◌∷◌, ◌++◌, set, refl, sym, ap, subst, inl, inr, ⊎_elim, arith, zero, suc}
 use Rattle.std.specs.Prelude.{All, sum_by, Option, Some, None}
 use Rattle.std.proofs.lemmas.List.Elements.{All-append, All-nil}
-use Rattle.std.proofs.lemmas.List.Sums.{sum_by_push, sum_by-cons, sum_by-append}
+use Rattle.std.proofs.lemmas.List.Sums.{sum_by_push, sum_by-append}
 use mathlib.Core.Option.{some, some-injective, some-ne-none}
 use Rattle.std.proofs.lemmas.List.{get_or_append_left}
-use native.Mathlib.Decide.{ℕ_discrete}
 use lib.ListN.{get_elem?}
 use Rattle.crossbeam_deque.specs.Tasks as tasks
 use Rattle.crossbeam_deque.specs.Tasks.{Pushes, Finds, FindsFew, Forks, Merges, Learns}
-use Rattle.yew_laws.proofs.Views.{at_set, at_snoc, total_set, total_split, total_join, one_part, two_parts, total_alone, set_else}
+use Rattle.yew_laws.proofs.Views.{at_set, at_snoc, total_set, total_split, total_join, one_part, two_parts, total_alone}
 use Rattle.yew_pool.specs.declared.rule.Hand.{Hand}
-use Rattle.yew_pool.specs.Rule.{hand, unopened, spent, started, has_put, has_taken, left_of, right_of, both_of, Fits, IsUnopened, IsOpen, Conserved, Balances, Takes, Settles}
+use Rattle.yew_pool.specs.Rule.{hand, unopened, spent, started, has_put, left_of, right_of, both_of, Fits, IsUnopened, IsOpen, Conserved, Balances, Takes, Settles}
 
 All-single : {X : Type 0} (P : X → Type 0) (x : X) → P x → All P (x ∷ [])
 All-single P x p zero d h = p

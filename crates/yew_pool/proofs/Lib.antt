@@ -5,3 +5,9 @@ pub mod Folding
 pub mod Emptying
 pub mod Merging
 pub mod Looking
+pub mod Starting
+pub mod Seating
+pub mod Order
+pub mod Apart
+pub mod Left
+pub mod Trying

@@ -1,6 +1,6 @@
 -- What a pass counts that finds deques empty.
 use Rattle.std.proofs.Common.{◌≡◌, ◌≢◌, ◌⊎◌, ℕ, ◌+◌, ◌<◌, ◌≤◌, ◌∙◌, List, [], ◌∷◌, ◌++◌, inl, inr, ⊎_elim, length, map, set, get_or, sym, refl, ap, subst, ext_get_or, arith}
-use Rattle.std.specs.Prelude.{Option, Some, None, IfSome, IfNone}
+use Rattle.std.specs.Prelude.{Option, Some, None, IfNone}
 use Rattle.std.specs.List.{flat_map}
 use Rattle.std.proofs.lemmas.Bool.{cases_lt}
 use Rattle.std.proofs.lemmas.List.{get_or-set_same, get_or-set_other, get_or-map, get_or_default, length-map, map-set}
@@ -11,7 +11,7 @@ use native.Mathlib.Decide.{ℕ_discrete}
 use Rattle.yew_laws.specs.Bag.{SameBag}
 use Rattle.yew_pool.specs.Rule.{Balances}
 use Rattle.yew_pool.specs.Places.{PlaceView, once_more}
-use Rattle.yew_pool.specs.Passes.{PassView, deques_of, taken_at, pass_view, HasTaken, HasLooked, HasLookedRound}
+use Rattle.yew_pool.specs.Passes.{PassView, taken_at, pass_view, HasTaken, HasLooked, HasLookedRound}
 use Rattle.yew_pool.specs.Tasks.{IsSoundFor}
 use Rattle.yew_pool.specs.Takes.{OnEmpty}
 use Rattle.yew_pool.specs.declared.pool.Take.{Take}

@@ -1,8 +1,7 @@
 -- What a take does to a pass.
-use Rattle.std.proofs.Common.{◌≡◌, ◌≢◌, ℕ, ◌+◌, ◌<◌, ◌≤◌, ◌∙◌, zero, suc, List, [], ◌∷◌, ◌++◌, length, map, set, get_or, sym, refl, ap, subst, arith}
+use Rattle.std.proofs.Common.{◌≡◌, ◌≢◌, ℕ, ◌+◌, ◌<◌, ◌∙◌, suc, List, [], ◌∷◌, ◌++◌, length, map, set, get_or, sym, refl, ap, subst, arith}
 use Rattle.std.specs.Prelude.{Option, Some, None, IfSome, IfNone, sum_by}
-use Rattle.std.specs.List.{flat_map}
-use Rattle.std.proofs.lemmas.List.{get_or-set_same, get_or-set_other, get_or_default, set-get_or, length-map}
+use Rattle.std.proofs.lemmas.List.{get_or-set_same, get_or-set_other, get_or-map, get_or_default, set-get_or, length-map}
 use Rattle.std.proofs.lemmas.List.Sums.{sum_by_push, sum_by-cons, sum_by-append, sum_by-set}
 use Rattle.std.proofs.Math.Seq.{map-set_same}
 use Rattle.std.proofs.Math.ListN.{length-set}
@@ -11,8 +10,8 @@ use Rattle.yew_laws.specs.Bag.{SameBag, PartOfBag}
 use Rattle.yew_laws.proofs.Bags.{sum_by-flat_map}
 use Rattle.yew_pool.specs.Rule.{has_taken, Balances}
 use Rattle.yew_pool.specs.declared.rule.Hand.{Hand}
-use Rattle.yew_pool.specs.Places.{PlaceView, once_more}
-use Rattle.yew_pool.specs.Passes.{PassView, deques_of, taken_at, pass_view, IsPlaced, AreSeated, HasTaken}
+use Rattle.yew_pool.specs.Places.{DequeId, PlaceView, once_more}
+use Rattle.yew_pool.specs.Passes.{PassView, taken_at, pass_view, IsPlaced, AreSeated, IsSeated, HasTaken}
 use Rattle.yew_pool.specs.Tasks.{IsSoundFor}
 
 module _ {T Q : Type 0} where
@@ -184,19 +183,23 @@ module _ {T Q : Type 0} where
       seated_owner number own new (set places number w) (seated_alike number number own places p w are are.within is (ap (λ (t : PlaceView T Q). t.deque) some.1) (ap (λ (t : PlaceView T Q). t.hand) some.1))
       (ap (λ (t : PlaceView T Q). t.deque) some.0) (ap (λ (t : PlaceView T Q). t.hand.share) some.0) (ap (λ (t : PlaceView T Q). t.hand.whole) some.0) (ap (λ (t : PlaceView T Q). t.hand.problem) some.0)
 
+  -- one of the places has changed, and the room is the same
+  pub is_seated : (number : ℕ) (own : PlaceView T Q) (places : List (PlaceView T Q)) (room : ℕ) → IsSeated number own places room → (at : ℕ) (w new : PlaceView T Q) → AreSeated number new (set places at w) → IsSeated number new (set places at w) room
+  is_seated number own places room is at w new seated = record { seated = seated; enough = (let l = length-set places at w in let r = is.enough in omega (arith, l, r)) }
+
   stole : (number at : ℕ) (own : PlaceView T Q) (places : List (PlaceView T Q)) (p : PlaceView T Q) (x : T) → at < length places → get_or places at p ≡ p
       → HasTaken (pass_view number own places) x (pass_view number own (set places at (taken p x)))
   stole number at own places p x within is = record {
     long = let l = length-set places at (taken p x) in length-map (set places at (taken p x)) (λ (t : PlaceView T Q). t.found_empty) ∙ (l ∙ sym (length-map places (λ (t : PlaceView T Q). t.found_empty)));
     same = ap (λ l. record {
-        pool = record { deques = l };
-        number = number;
-        share = 1;
-        problem = own.hand.problem;
-        put = own.hand.put;
-        took = own.hand.took ++ taken_at (set places at (taken p x));
-        found_empty = map (λ (t : PlaceView T Q). t.found_empty) (set places at (taken p x));
-      })
+      pool = record { deques = l };
+      number = number;
+      share = 1;
+      problem = own.hand.problem;
+      put = own.hand.put;
+      took = own.hand.took ++ taken_at (set places at (taken p x));
+      found_empty = map (λ (t : PlaceView T Q). t.found_empty) (set places at (taken p x));
+    })
         (map-set_same (λ (t : PlaceView T Q). t.deque) places at (taken p x) p (sym (ap (λ (t : PlaceView T Q). t.deque) is)));
     took = record {
       weighs = λ h. (
@@ -235,3 +238,17 @@ module _ {T Q : Type 0} where
     ap (λ (t : PassView T Q). t.number) view,
     (let e = ap (λ (t : PassView T Q). length t.pool.deques) view in let l = length_map places in let w = are.within in omega (arith, e, l, w)),
   )
+
+  -- the deque at a pass's number is its own
+  pub owned : (number : ℕ) (own : PlaceView T Q) (places : List (PlaceView T Q)) (pass : PassView T Q) (d : DequeId) → pass_view number own places ≡ pass → AreSeated number own places → get_or pass.pool.deques pass.number d ≡ own.deque
+  owned number own places pass d view are =
+      subst (λ (t : PassView T Q). get_or t.pool.deques t.number d ≡ own.deque) view (get_or-map (λ (p : PlaceView T Q). p.deque) places number own d are.within ∙ are.here own)
+
+  -- passes of one pool with one number own one deque
+  pub same_owned : (n m : ℕ) (own other : PlaceView T Q) (places more : List (PlaceView T Q)) (x y : PassView T Q) → pass_view n own places ≡ x → pass_view m other more ≡ y → AreSeated n own places → AreSeated m other more → y.pool ≡ x.pool → y.number ≡ x.number
+      → other.deque ≡ own.deque
+  same_owned n m own other places more x y view view' are are' pool number =
+      sym (owned m other more y own.deque view' are') ∙ ((λ i. get_or (pool i).deques (number i) own.deque) ∙ owned n own places x own.deque view are)
+
+  pub has_share : (number : ℕ) (own : PlaceView T Q) (places : List (PlaceView T Q)) (pass : PassView T Q) → pass_view number own places ≡ pass → pass.share ≡ 1
+  has_share number own places pass view = sym (ap (λ (t : PassView T Q). t.share) view)

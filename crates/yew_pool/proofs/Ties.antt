@@ -1,6 +1,6 @@
 -- From what a step tells of a place to what contracts see.
-use Rattle.std.proofs.Common.{◌≡◌, ℕ, ◌<◌, ◌∙◌, List, [], ◌∷◌, sym, ap, subst, arith}
-use Rattle.std.specs.Prelude.{All, Option, Some, None, IfSome, MatchOption}
+use Rattle.std.proofs.Common.{◌≡◌, ℕ, ◌<◌, ◌∙◌, [], ◌∷◌, sym, ap, arith}
+use Rattle.std.specs.Prelude.{Option, Some, None, IfSome, MatchOption}
 use Rattle.yew_pool.specs.declared.rule.Hand.{Hand}
 use Rattle.yew_pool.specs.Rule.{Takes, has_taken}
 use Rattle.crossbeam_deque.specs.Steals.{MatchSteal}
@@ -29,7 +29,7 @@ module _ {T Q : Type 0} (sound : Q → T → Type 0) where
   pub stolen : (deque : DequeId) (n : ℕ) (v w : Hand T Q) (place : PlaceView T Q) (retry : Type 0) (r : Steal T) → record { deque = deque; hand = v; found_empty = n } ≡ place
       → MatchSteal r ((w ≡ v) × Unit {0}) ((w ≡ v) × retry) (λ x. Takes sound v (x ∷ []) w)
       → MatchSteal r (record { deque = deque; hand = w; found_empty = n } ≡ place) (record { deque = deque; hand = w; found_empty = n } ≡ place)
-        (λ x. (◌≡◌ {A = PlaceView T Q} (record { deque = deque; hand = w; found_empty = n }) (record { deque = place.deque; hand = has_taken place.hand x; found_empty = place.found_empty })) × IsSoundFor sound place.hand.problem x)
+      (λ x. (◌≡◌ {A = PlaceView T Q} (record { deque = deque; hand = w; found_empty = n }) (record { deque = place.deque; hand = has_taken place.hand x; found_empty = place.found_empty })) × IsSoundFor sound place.hand.problem x)
   stolen deque n v w place retry Empty view told = ap (λ (u : Hand T Q). record { deque = deque; hand = u; found_empty = n }) told.0 ∙ view
   stolen deque n v w place retry Retry view told = ap (λ (u : Hand T Q). record { deque = deque; hand = u; found_empty = n }) told.0 ∙ view
   stolen deque n v w place retry (Success x) view told = (

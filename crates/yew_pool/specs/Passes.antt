@@ -55,6 +55,11 @@ pub record AreSeated {T Q : Type 0} (number : ℕ) (own : PlaceView T Q) (places
   pub shares : own.hand.share + sum_by (λ place. place.hand.share) places ≡ own.hand.whole
   pub each : (at : ℕ) (other : PlaceView T Q) → at < length places → IsPlaced own.hand.problem number at (slice_index_or places at other)
 
+-- a pass with its places, and room for the deques and places of all passes
+pub record IsSeated {T Q : Type 0} (number : ℕ) (own : PlaceView T Q) (places : List (PlaceView T Q)) (room : ℕ) : Type 0 where
+  pub seated : AreSeated number own places
+  pub enough : length places ≤ room
+
 -- the pass took this task, and nothing else changed, but what it counts
 pub record HasTaken {T Q : Type 0} (old : PassView T Q) (task : T) (new : PassView T Q) : Type 0 where
   pub same : new ≡ record old { took = new.took; found_empty = new.found_empty }

@@ -1,4 +1,3 @@
-use Rattle.std.proofs.Common.{◌<◌, sym, subst}
 use Rattle.yew_pool.proofs.Keeps.{forks}
 use Rattle.yew_pool.proofs.Ties.{many_shares}
 use Rattle.yew_pool.specs.Tasks.{is_task}
