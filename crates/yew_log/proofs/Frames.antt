@@ -1,17 +1,19 @@
 -- A walk that is under way: the open visits, each with what was done below it. The lemmas are the turns of the walk.
 use Rattle.std.proofs.Common.{◌≡◌, ℕ, suc, ◌≤◌, List, [], ◌∷◌, ◌++◌, map, ◌⊎◌, inl, inr, refl, ap, sym, subst, ◌∙◌, append_assoc, append-nil, arith}
-use Rattle.std.specs.Prelude.{IsTrue}
+use Rattle.std.specs.Prelude.{IsSome, IsTrue}
 use Rattle.std.specs.List.{AllByRecursion, Contains}
 use Rattle.yew_laws.specs.Bag.{PartOfBag}
 use Rattle.yew_laws.specs.Order.{comes_before, parent_of}
-use Rattle.yew_laws.specs.SearchTree.{SearchTree, below}
+use Rattle.yew_laws.specs.SearchTree.{SearchTree, at_path, below}
+use Rattle.yew_laws.specs.Tree.{IsRanked}
 use Rattle.yew_laws.proofs.Below.{AtOrBelow, InChild}
 use Rattle.yew_laws.proofs.Members.{AllByRecursion-weaker, Contains-head, Contains-tail}
 use Rattle.yew_laws.proofs.PathTests.{before-itself}
 use Rattle.yew_log.specs.Places.{AtEach}
-use Rattle.yew_log.specs.Notes.{Note, visited, spawned, handed, ended, paths, judgements, judgement_in, ended_in, taken_paths, visited_paths, ended_paths, event_paths}
+use Rattle.yew_log.specs.Notes.{Note, visited, spawned, handed, ended, paths, judgements, judgement_in, ended_in, taken_paths, visited_paths, sent_paths, ended_paths, event_paths}
 use Rattle.yew_log.specs.Segment.{segment, IsOnce, EndsVisits, Rise, EachJudged, HasParent, IsValued, Begins, IsBroken, covered_paths}
 use Rattle.yew_log.proofs.Blocks.{IsSpan, IsBlock, HasParentBelow, Rise-append, span-none, span-append, span-block, span-spawned_all, span-handed_all, block-close, events-join, rises-join, once-join, parents-join, ends-join, judgements-from_events, open-span}
+use Rattle.yew_log.proofs.KnownPaths.{segment-of_tree, segment-one_of_a_kind}
 
 -- an open visit: its path, its worth and held value, the number of its next child, and what was done below it
 pub record Frame : Type 0 where
@@ -163,7 +165,17 @@ frames-open task f fs a =
     (subst (λ ns. IsOpenBlock f.path (visited f.path f.worth f.held ∷ ns)) (sym (append-nil f.inside))
     (open-visit f f.next f.inside a.0.events a.0.rises a.0.parents a.0.ends a.0.ends_once))
 
-module _ {N : Type 0} (t : SearchTree N) where
+module _ {N : Type 0} (t : SearchTree N) {sound : N → Type 0} (ranked : IsRanked sound t.children t.rank) (root : sound t.root) where
   -- an open block that covers a part of what lies below the task is a segment that was broken off
-  pub broken-from_open : (task : List ℕ) (body : List Note) → IsOpenBlock task body → taken_paths body ≡ [] → (body ≡ []) ⊎ Begins task body → PartOfBag (covered_paths t body) (below t task) → IsValued t body → IsBroken t (segment task body)
-  broken-from_open task body o u b p v = record { untaken = u; begins = b; rises = o.rises; parents = o.parents; ends = o.ends; ends_once = o.ends_once; part_covered = p; valued = v }
+  pub broken-from_open : (task : List ℕ) (body : List Note) → IsOpenBlock task body → taken_paths body ≡ [] → (body ≡ []) ⊎ Begins task body → PartOfBag (covered_paths t body) (below t task) → IsValued t body → IsSome (at_path t task) → AllByRecursion (λ path. IsSome (at_path t path)) (sent_paths body) → IsBroken t (segment task body)
+  broken-from_open task body o u b p v there sent = record {
+    untaken = u;
+    begins = b;
+    rises = o.rises;
+    parents = o.parents;
+    ends = o.ends;
+    in_tree = segment-of_tree t ranked root task body there sent u o.ends o.ends_once v p;
+    one_of_a_kind = segment-one_of_a_kind t ranked root task body there sent u o.ends o.ends_once v p;
+    part_covered = p;
+    valued = v;
+  }

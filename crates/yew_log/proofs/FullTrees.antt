@@ -16,8 +16,8 @@ use Rattle.yew_laws.proofs.Trees.{tree-contains}
 use Rattle.yew_laws.proofs.Weights.{all-weighs, contains-has_weight}
 use Rattle.yew_log.specs.Groups.{Skeleton}
 use Rattle.yew_log.specs.Notes.{Note, taken, visited, cut, spawned, handed, ended, path_of, path_numbers, paths, judgements, taken_in, sent_in, ended_in, taken_paths, sent_paths, ended_paths}
-use Rattle.yew_log.specs.Segment.{IsOnce}
-use Rattle.yew_log.specs.AuditFull.{OneOfAKind, IsAuditFull, IsLarge}
+use Rattle.yew_log.specs.Segment.{IsOnce, OneOfAKind}
+use Rattle.yew_log.specs.AuditFull.{IsAuditFull, IsLarge}
 use Rattle.yew_log.proofs.Kept.{path_numbers-push}
 
 occurs-takes_out : (path : List ℕ) (ps : List (List ℕ)) → 0 < occurs path ps → IsTakenOut path ps

@@ -92,7 +92,7 @@ module _ {N : Type 0} (t : SearchTree N) where
   segment-from_block task body b u s p v = record { untaken = u; begins = s; rises = b.rises; parents = b.parents; nests = b.nests; ends = b.ends; all_covered = p; valued = v }
 
 -- groups: one more event with its group
-group_of-append : (xs ys : List Note) → group_of ys ≡ [] → group_of (xs ++ ys) ≡ group_of xs
+pub group_of-append : (xs ys : List Note) → group_of ys ≡ [] → group_of (xs ++ ys) ≡ group_of xs
 group_of-append [] ys e = e
 group_of-append (spawned p ∷ xs) ys e = ap (λ g. spawned p ∷ g) (group_of-append xs ys e)
 group_of-append (handed p ∷ xs) ys e = ap (λ g. handed p ∷ g) (group_of-append xs ys e)

@@ -5,7 +5,7 @@ use Rattle.yew_laws.specs.SearchTree.{SearchTree}
 use Rattle.yew_log.specs.Notes.{Note}
 use Rattle.yew_log.specs.Segment.{Segment, IsSegment}
 use Rattle.yew_log.specs.Groups.{Skeleton, HasGroups, SkeletonGroup}
-use Rattle.yew_log.specs.Lawful.{LawfulLog, MayRest}
+use Rattle.yew_log.specs.Lawful.{LawfulLog, HasShape, MayRest}
 use Rattle.yew_log.proofs.Pieces.{pieces_of, segments-unique}
 
 module _ {N : Type 0} {t : SearchTree N} {gap : ℕ} {skeleton : Skeleton} {workers number : ℕ} {notes : List Note} (lawful : LawfulLog t gap skeleton workers number notes) where
@@ -14,6 +14,9 @@ module _ {N : Type 0} {t : SearchTree N} {gap : ℕ} {skeleton : Skeleton} {work
 
   pub each : AllByRecursion (IsSegment t) (pieces_of notes).segments
   each = subst (AllByRecursion (IsSegment t)) same lawful.each
+
+  pub shape : HasShape t skeleton workers number (pieces_of notes).segments
+  shape = subst (HasShape t skeleton workers number) same lawful.groups.shape
 
   -- with no rest segments, each segment has the groups of the skeleton
   pub groups-without_rest : (MayRest skeleton workers number → ⊥) → AllByRecursion (λ (s : Segment). HasGroups (SkeletonGroup t skeleton) s.body) (pieces_of notes).segments

@@ -7,12 +7,15 @@ pub mod Frames
 pub mod FullTrees
 pub mod Growth
 pub mod Kept
+pub mod KnownPaths
 pub mod LawfulParts
 pub mod Nesting
+pub mod PathOrders
 pub mod Pieces
 pub mod Places
 pub mod PlainKey
 pub mod PolicyRows
+pub mod SentKinds
 pub mod SeqLawful
 pub mod SeqLaws
 pub mod SeqUnique

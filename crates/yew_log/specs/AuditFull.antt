@@ -1,32 +1,25 @@
 -- An audit that could not be kept: a log that had no room for its next entry.
-use Rattle.std.specs.Prelude.{◌≡◌, ℕ, ◌<◌, ◌^◌, ◌⊎◌, List, [], ◌∷◌, ◌++◌, length, Some, IsSome}
-use Rattle.std.specs.List.{AllByRecursion, sum_by}
-use Rattle.yew_laws.specs.SearchTree.{SearchTree, at_path, tree_paths}
-use Rattle.yew_log.specs.Notes.{Note, judgements, paths, path_of, path_numbers, taken_paths, sent_paths, ended_paths}
+use Rattle.std.specs.Prelude.{◌≡◌, ℕ, ◌<◌, ◌^◌, ◌⊎◌, List, [], ◌∷◌, ◌++◌, length, Some}
+use Rattle.std.specs.List.{sum_by}
+use Rattle.yew_laws.specs.SearchTree.{SearchTree, tree_paths}
+use Rattle.yew_log.specs.Notes.{Note, path_of, path_numbers}
 use Rattle.yew_log.specs.Groups.{Skeleton, sequential}
 use Rattle.yew_log.specs.HeldValues.{HeldIsMaximum}
 use Rattle.yew_log.specs.Lawful.{key_kind_of, IsBrokenLog}
 use Rattle.yew_log.specs.Recording.{IsFull}
-use Rattle.yew_log.specs.Segment.{IsOnce}
+use Rattle.yew_log.specs.Segment.{AreOfTree, OneOfAKind}
 use Rattle.yew_log.specs.SeqLog.{seq_log}
 
 -- entries that no log that tells its entries has room for
 abbrev pub MeetsLimits : List Note → Type 0
 MeetsLimits notes = (2 ^ 18 < length notes) ⊎ (2 ^ 22 < path_numbers notes)
 
--- no path is taken twice, visited or cut twice, spawned or handed over twice, or ended twice
-pub record OneOfAKind (notes : List Note) : Type 0 where
-  pub taken_once : IsOnce (taken_paths notes)
-  pub judged_once : IsOnce (paths (judgements notes))
-  pub sent_once : IsOnce (sent_paths notes)
-  pub ended_once : IsOnce (ended_paths notes)
-
 -- the log behind the answer that the audit is full, with its two numbers, in a search of so many workers; with the next entry, for which it has no room, its paths are still paths of the tree, and no path has two entries of a kind
 pub record IsAuditFull {N : Type 0} (t : SearchTree N) (gap : ℕ) (skeleton : Skeleton) (workers entries numbers : ℕ) : Type 0 where
   pub notes : List Note
   pub next : Note
   pub full : IsFull (Some notes) (path_of next) entries numbers
-  pub in_tree : AllByRecursion (λ note. IsSome (at_path t (path_of note))) (notes ++ next ∷ [])
+  pub in_tree : AreOfTree t (notes ++ next ∷ [])
   pub one_of_a_kind : OneOfAKind (notes ++ next ∷ [])
   pub keeps : IsBrokenLog t gap (key_kind_of skeleton) notes
   pub alone : workers ≡ 1 → HeldIsMaximum notes

@@ -16,7 +16,8 @@
 -- 9. In a search of one worker each held value is the greatest worth of the earlier visits, and 0 where there is none.
 --
 -- A log that was broken off keeps rules 1, 2, 5, 7 and 8 as far as it goes: in each segment the paths of rule 4 are a
--- part of those at and below the task, no path is ended twice, and each end stands after its visit.
+-- part of those at and below the task, each end stands after its visit, each path is one of the tree, and no path is
+-- visited or cut twice, spawned or handed over twice, or ended twice.
 use Rattle.std.specs.Prelude.{◌≡◌, ◌≢◌, ℕ, ◌<◌, ◌⊎◌, List, [], ◌∷◌, ◌++◌, map, length, nat_lt, if◌then◌else◌}
 use Rattle.std.specs.List.{AllByRecursion, flat_map}
 use Rattle.yew_log.specs.Places.{AtEach}
@@ -105,7 +106,7 @@ pub record IsBrokenLog {N : Type 0} (t : SearchTree N) (gap : ℕ) (keyed : KeyK
   pub held_rises : HeldRises notes
   pub due : IsJudged t gap keyed notes
 
--- the same of one task, where there may be no entry at all
+-- the same of one task: there is one segment, which is of this task, or no entry at all
 pub record IsBrokenWalk {N : Type 0} (t : SearchTree N) (gap : ℕ) (keyed : KeyKind) (task : List ℕ) (notes : List Note) : Type 0 where
   pub keeps : IsBrokenLog t gap keyed notes
-  pub of_task : (notes ≡ []) ⊎ ((body : List Note) × (notes ≡ entries (segment task body ∷ [])))
+  pub of_task : (keeps.segments ≡ []) ⊎ ((body : List Note) × (keeps.segments ≡ segment task body ∷ []))

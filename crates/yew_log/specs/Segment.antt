@@ -1,11 +1,11 @@
 -- One segment of a log: the entries of one taken task. The rules are numbered as in Lawful.
-use Rattle.std.specs.Prelude.{◌≡◌, ◌≢◌, ℕ, ◌≤◌, ◌⊎◌, List, [], ◌∷◌, ◌++◌, Some, IsTrue, IsFalse}
+use Rattle.std.specs.Prelude.{◌≡◌, ◌≢◌, ℕ, ◌≤◌, ◌⊎◌, List, [], ◌∷◌, ◌++◌, Some, IsSome, IsTrue, IsFalse}
 use Rattle.std.specs.List.{AllByRecursion, Contains, flat_map}
 use Rattle.yew_laws.specs.Bag.{SameBag, PartOfBag}
 use Rattle.yew_log.specs.Places.{AtEach}
 use Rattle.yew_laws.specs.Order.{comes_before, lies_below, is_child, parent_of, occurs}
-use Rattle.yew_laws.specs.SearchTree.{SearchTree, worth_at, bound_at, below}
-use Rattle.yew_log.specs.Notes.{Note, taken, visited, cut, ended, Judgement, paths, visits, cuts, judgements, judgement_in, visit_in, ended_in, taken_paths, visited_paths, cut_paths, sent_paths, ended_paths, event_paths}
+use Rattle.yew_laws.specs.SearchTree.{SearchTree, at_path, worth_at, bound_at, below}
+use Rattle.yew_log.specs.Notes.{Note, taken, visited, cut, ended, Judgement, path_of, paths, visits, cuts, judgements, judgement_in, visit_in, ended_in, taken_paths, visited_paths, cut_paths, sent_paths, ended_paths, event_paths}
 
 -- a taken task and the entries after it, up to the next taken task
 pub record Segment : Type 0 where
@@ -64,7 +64,18 @@ EndsVisits notes = AtEach (λ before note after. AllByRecursion (λ p. Contains 
 abbrev pub IsOnce : List (List ℕ) → Type 0
 IsOnce ps = (path : List ℕ) → occurs path ps ≤ 1
 
+-- no path is taken twice, visited or cut twice, spawned or handed over twice, or ended twice
+pub record OneOfAKind (notes : List Note) : Type 0 where
+  pub taken_once : IsOnce (taken_paths notes)
+  pub judged_once : IsOnce (paths (judgements notes))
+  pub sent_once : IsOnce (sent_paths notes)
+  pub ended_once : IsOnce (ended_paths notes)
+
 module _ {N : Type 0} (t : SearchTree N) where
+  -- the path of each entry is one of the tree
+  abbrev pub AreOfTree : List Note → Type 0
+  AreOfTree notes = AllByRecursion (λ note. IsSome (at_path t (path_of note))) notes
+
   -- rule 4: what the entries stand for: the visited paths, and all paths at and below the cut and the sent ones
   abbrev pub covered_paths : List Note → List (List ℕ)
   covered_paths notes = visited_paths notes ++ flat_map (below t) (cut_paths notes ++ sent_paths notes)
@@ -85,13 +96,14 @@ module _ {N : Type 0} (t : SearchTree N) where
     pub all_covered : SameBag (covered_paths s.body) (below t s.task)
     pub valued : IsValued s.body
 
-  -- rules 1, 2 and 5 of a segment that may have been broken off
+  -- rules 1, 2 and 5 of a segment that may have been broken off, of which each path is one of the tree, and none has two entries of a kind
   pub record IsBroken (s : Segment) : Type 0 where
     pub untaken : taken_paths s.body ≡ []
     pub begins : (s.body ≡ []) ⊎ Begins s.task s.body
     pub rises : Rise (paths (judgements s.body))
     pub parents : EachJudged (HasParent s.task) s.body
     pub ends : EndsVisits s.body
-    pub ends_once : IsOnce (ended_paths s.body)
+    pub in_tree : AreOfTree (entries_in s)
+    pub one_of_a_kind : OneOfAKind (entries_in s)
     pub part_covered : PartOfBag (covered_paths s.body) (below t s.task)
     pub valued : IsValued s.body

@@ -1,15 +1,19 @@
 //! The laws of logs. Each function is a law: it does nothing, and its contract is proved once for all that cite it.
 
-ghost use Rattle.std.specs.Prelude.{◌≡◌, ◌<◌, ℕ, Bool, List};
+ghost use Rattle.std.specs.Prelude.{◌≡◌, ◌<◌, ◌≤◌, ℕ, Bool, List, length};
+ghost use Rattle.std.specs.Cmp.Lexicographic.{slice_cmp};
+ghost use Rattle.std.specs.Ordering.{nat_cmp, is_lt};
+ghost use Rattle.yew_laws.specs.Order.{comes_before};
 ghost use Rattle.yew_laws.specs.SearchTree.{search_tree};
 ghost use Rattle.yew_log.specs.AuditFull.{IsAuditFull, IsLarge};
-ghost use Rattle.yew_log.specs.Groups.{Part, Skeleton, sequential, by_depth, by_budget, by_steal, HasGroups, NoGroup, SkeletonGroup};
+ghost use Rattle.yew_log.specs.Groups.{Part, Skeleton, sequential, by_depth, by_budget, by_steal, in_order, HasGroups, NoGroup, SkeletonGroup};
 ghost use Rattle.yew_log.specs.Lawful.{LawfulLog};
-ghost use Rattle.yew_log.specs.Notes.{Note};
+ghost use Rattle.yew_log.specs.Notes.{Note, spawned_paths, handed_paths, sent_paths};
 ghost use Rattle.yew_log.specs.Policies.{HasPolicy, plain_policy, depth_policy, spending, budget_policy, hungry_policy};
+ghost use Rattle.yew_log.specs.Segment.{Segment, IsSegment};
 ghost use Rattle.yew_log.specs.SeqLog.{seq_log};
 
-use yew_laws::Problem;
+use yew_laws::{Path, Problem};
 
 /// The sequential log of a problem is lawful with any gap, and each lawful sequential log is that one.
 pub fn seq_log_is_lawful<P: Problem>(problem: &P)
@@ -45,4 +49,29 @@ pub fn full_audits_are_of_large_trees<P: Problem>(problem: &P)
         IsAuditFull t gap skeleton workers entries numbers → IsLarge t }
 {
     let _ = problem;
+}
+
+/// What the groups of a skeleton send in a segment: under a depth and under a budget all that is sent is spawned, and under
+/// stealing all is handed over. And a segment without groups, of a task at or
+/// below a depth, has the groups of that depth in order.
+pub fn groups_send_one_kind<P: Problem>(problem: &P)
+    ensures depth { (depth : ℕ) (s : Segment) → let t = search_tree P.Problem problem.now in
+        IsSegment t s → HasGroups (SkeletonGroup t (by_depth depth)) s.body → sent_paths s.body ≡ spawned_paths s.body }
+    ensures budget { (budget : ℕ) (s : Segment) → let t = search_tree P.Problem problem.now in
+        IsSegment t s → HasGroups (SkeletonGroup t (by_budget budget)) s.body → sent_paths s.body ≡ spawned_paths s.body }
+    ensures steal { (part : Part) (s : Segment) → let t = search_tree P.Problem problem.now in
+        IsSegment t s → HasGroups (SkeletonGroup t (by_steal part)) s.body → sent_paths s.body ≡ handed_paths s.body }
+    ensures in_order { (depth : ℕ) (s : Segment) → let t = search_tree P.Problem problem.now in
+        depth ≤ length s.task → IsSegment t s → HasGroups NoGroup s.body → HasGroups (SkeletonGroup t (in_order depth)) s.body }
+{
+    let _ = problem;
+}
+
+/// The order of paths is one: a path is less than another exactly where it comes before it, a prefix first, and otherwise
+/// by the first number that differs.
+pub fn less_comes_before(first: &Path, second: &Path) -> bool
+    ensures less { result ≡ comes_before first.now.numbers second.now.numbers }
+    ensures order { (p q : List ℕ) → is_lt (slice_cmp nat_cmp p q) ≡ comes_before p q }
+{
+    first < second
 }

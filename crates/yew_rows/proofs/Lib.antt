@@ -1,5 +1,10 @@
 pub mod BudgetLog
+pub mod DepthLog
 pub mod Differs
+pub mod GapLog
 pub mod OrderedLog
 pub mod Refused
+pub mod RestLog
 pub mod SequentialLog
+pub mod StealLogs
+pub mod StealSearch

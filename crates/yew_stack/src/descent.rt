@@ -211,7 +211,7 @@ impl<P: Problem> Descent<P> {
 
     /// Moves nodes of the lowest level that has any to come, to the end of a list of tasks: its next node, or all its
     /// nodes in order. Where no level has any, nothing is moved. After `Memory` the list has the tasks that were moved,
-    /// and the levels lack exactly these.
+    /// and the levels lack exactly these. The descent stays at its path.
     pub fn split_lowest(
         &mut self,
         alloc: Global,
@@ -227,6 +227,8 @@ impl<P: Problem> Descent<P> {
         // Whatever the answer: as bags, what was to come is what is to come, and what lies at and below the tasks.
         ensures to_come { SameBag (to_come P.Problem problem.now self.old.levels) (to_come P.Problem problem.now self.new.levels ++ flat_map (task_members P.Problem problem.now) (appended into.old.items into.new.items)) }
         ensures levels_open { AllOpen P.Problem problem.now self.old.levels → AllOpen P.Problem problem.now self.new.levels × AllByRecursion (λ task. IsTask P.Problem problem.now task.path.numbers task.node) (appended into.old.items into.new.items) }
+        // The descent stands where it stood.
+        ensures path { (self.new.path ≡ self.old.path) × (self.new.first ≡ self.old.first) }
     {
         // A path has fewer than 2^64 steps.
         let _steps = self.path.numbers().len();

@@ -29,6 +29,7 @@ use Rattle.yew_walk.specs.declared.keying.Keying.TheVariants.{Plain}
 use Rattle.yew_walk.specs.Hands.{incumbent_of, best_after, AreVisited}
 use Rattle.yew_walk.specs.LogViews.{LogView}
 use Rattle.yew_walk.specs.PlainSearch.{NeverCuts, IsPlainLog, IsPlainFault}
+use Rattle.yew_walk.specs.Outlets.{OutletCall}
 use Rattle.yew_walk.specs.Scenes.{Scene, scene, IsAlone, IsCause, IsWalked, IsRefused}
 use Rattle.yew_walk.specs.Seats.{SeatGoes}
 use Rattle.yew_walk.proofs.AuditFulls.{audit_full-sequential, goes-held_is_maximum}
@@ -68,11 +69,11 @@ module _ {S N K Sum : Type 0} (meaning : Ghosts S N K) (problem : S) (join : Sum
   abbrev t : SearchTree N
   t = search_tree meaning problem
 
-  abbrev Walked : Scene S N K Sum (Unit {0}) → Scene S N K Sum (Unit {0}) → Type 0
+  abbrev Walked : (List OutletCall → Type 0) → Scene S N K Sum (Unit {0}) → Scene S N K Sum (Unit {0}) → Type 0
   Walked = IsWalked meaning problem Plain join of plain_policy [] none
 
   module _ (first now : Scene S N K Sum (Unit {0})) (fresh : IsFresh none first) where
-    module _ (w : Walked first now) where
+    module _ {did : List OutletCall → Type 0} (w : Walked did first now) where
       notes-are : w.notes ≡ seq_log t 0
       notes-are = plain_walk-seq_log t (meaning.ranked problem) root w.answers w.notes first.seat now.seat w.walk w.goes fresh.none_offered fresh.whole_share
 
@@ -117,13 +118,13 @@ module _ {S N K Sum : Type 0} (meaning : Ghosts S N K) (problem : S) (join : Sum
         told-are : IfSome now.log.told (λ notes. notes ≡ r.notes)
         told-are = fresh-told first.log.told now.log.told r.notes fresh.none_told (ap (λ (log : LogView). log.told) r.log_is ∙ log_after-told first.log r.notes)
 
-        full : (ahead : List Note) → length ahead ≤ 1 → SeatGoes Plain first.seat (r.notes ++ ahead) now.seat → IsBrokenWalk t 0 plain [] (r.notes ++ ahead) → IsCause (AuditFull worker entries numbers) now.log ahead → (rest : List Note) × (seq_log t 0 ≡ (r.notes ++ ahead) ++ rest) → tells × ((worker ≡ 1) × IsAuditFull t 0 sequential 1 entries numbers)
+        full : (ahead : List Note) → length ahead ≤ 1 → SeatGoes t Plain first.seat (r.notes ++ ahead) now.seat → IsBrokenWalk t 0 plain [] (r.notes ++ ahead) → IsCause (AuditFull worker entries numbers) now.log ahead → (rest : List Note) × (seq_log t 0 ≡ (r.notes ++ ahead) ++ rest) → tells × ((worker ≡ 1) × IsAuditFull t 0 sequential 1 entries numbers)
         full [] one g k c s = absurd c
         full (next ∷ second ∷ more) one g k c s = absurd (omega (arith, one))
         full (next ∷ []) one g k c s =
             let f = c.1 in
             let same : f.notes ≡ r.notes = subst (λ told. IfSome told (λ notes. notes ≡ r.notes)) f.are_told told-are in
-            let held : HeldIsMaximum r.notes = AtEach-front (λ b n. AllByRecursion (λ (j : Judgement). j.held ≡ maximum (values (visits b))) (judgement_in n)) [] r.notes (next ∷ []) (goes-held_is_maximum first.seat now.seat (r.notes ++ next ∷ []) g fresh.none_offered fresh.whole_share) in
+            let held : HeldIsMaximum r.notes = AtEach-front (λ b n. AllByRecursion (λ (j : Judgement). j.held ≡ maximum (values (visits b))) (judgement_in n)) [] r.notes (next ∷ []) (goes-held_is_maximum t first.seat now.seat (r.notes ++ next ∷ []) g fresh.none_offered fresh.whole_share) in
             let is_full : IsFull (Some r.notes) (path_of next) entries numbers = record {
               notes = r.notes;
               are_told = refl;
@@ -134,6 +135,6 @@ module _ {S N K Sum : Type 0} (meaning : Ghosts S N K) (problem : S) (join : Sum
               tells-of (subst IsSome (sym f.are_told) refl),
               (
                 c.0 ∙ ap (λ (log : LogView). log.number) r.log_is ∙ log_after-number first.log r.notes ∙ fresh.first_worker,
-                audit_full-sequential t (meaning.ranked problem) root r.notes next entries numbers is_full r.keeps k held s,
+                audit_full-sequential t r.notes next entries numbers is_full r.keeps k held s,
               ),
             )

@@ -28,6 +28,7 @@ use Rattle.yew_walk.specs.declared.policy.Event.TheVariants.{Visited, CutOff, En
 use Rattle.yew_walk.specs.Entering.{Enters}
 use Rattle.yew_walk.specs.Hands.{incumbent_of}
 use Rattle.yew_walk.specs.LogViews.{LogView, log_after}
+use Rattle.yew_walk.specs.Outlets.{OutletCall}
 use Rattle.yew_walk.specs.Scenes.{Scene, sum_after, IsWalking, IsWalked}
 use Rattle.yew_walk.specs.Sharing.{IsSplitOff, IsAsked}
 use Rattle.yew_walk.specs.Seats.{IsRead}
@@ -35,9 +36,10 @@ use Rattle.yew_walk.specs.SeqRests.{IsInSequence}
 use Rattle.yew_walk.specs.UnderWay.{IsUnderWay}
 use Rattle.yew_walk.specs.Verdicts.{IsVisit}
 use Rattle.yew_walk.proofs.DealtLevels.{dealt-first_visit, dealt-first_cut}
+use Rattle.yew_walk.proofs.OutletCalls.{calls-taken}
 use Rattle.yew_walk.proofs.PolicyInputs.{policy-start}
 use Rattle.yew_walk.proofs.SeqRests.{sequence-start}
-use Rattle.yew_walk.proofs.UnderWays.{underway-start}
+use Rattle.yew_walk.proofs.UnderWays.{underway-start, found-there}
 use Rattle.yew_walk.proofs.WalkEnds.{underway-walk}
 use Rattle.yew_walk.proofs.Walkings.{AwaitsNode}
 
@@ -86,7 +88,7 @@ module _ {S N K : Type 0} (meaning : Ghosts S N K) (problem : S) where
       lengths (inl n) = ap length n.1
       lengths (inr m) = ap length m.new_is ∙ length-append m.lower (m.rest ∷ m.upper) ∙ sym (length-append m.lower (m.level ∷ m.upper)) ∙ sym (ap length m.old_is)
 
-  pub asked-turns_left : {Q : Type 0} (policy : PolicyMeaning Q) (input : PolicyInput) (before after : Q) (old new : List (LevelValue K)) (old_log new_log : LogView) (old_sent new_sent : List (Task S N K)) → IsAsked meaning problem policy input before old old_log old_sent after new new_log new_sent → turns_left meaning problem new ≤ turns_left meaning problem old
+  pub asked-turns_left : {Q : Type 0} {did : List OutletCall → Type 0} (policy : PolicyMeaning Q) (input : PolicyInput) (before after : Q) (old new : List (LevelValue K)) (old_log new_log : LogView) (old_sent new_sent : List (Task S N K)) → IsAsked meaning problem policy input did before old old_log old_sent after new new_log new_sent → turns_left meaning problem new ≤ turns_left meaning problem old
   asked-turns_left policy input before after old new old_log new_log old_sent new_sent a =
       elim a.act_done [
         | inl n ↦ let e = ap (turns_left meaning problem) n.1 in omega (arith, e)
@@ -94,7 +96,7 @@ module _ {S N K : Type 0} (meaning : Ghosts S N K) (problem : S) where
       ]
 
   -- the levels stay open
-  pub asked-open : {Q : Type 0} (policy : PolicyMeaning Q) (input : PolicyInput) (before after : Q) (old new : List (LevelValue K)) (old_log new_log : LogView) (old_sent new_sent : List (Task S N K)) → IsAsked meaning problem policy input before old old_log old_sent after new new_log new_sent → AllOpen meaning problem old → AllOpen meaning problem new
+  pub asked-open : {Q : Type 0} {did : List OutletCall → Type 0} (policy : PolicyMeaning Q) (input : PolicyInput) (before after : Q) (old new : List (LevelValue K)) (old_log new_log : LogView) (old_sent new_sent : List (Task S N K)) → IsAsked meaning problem policy input did before old old_log old_sent after new new_log new_sent → AllOpen meaning problem old → AllOpen meaning problem new
   asked-open policy input before after old new old_log new_log old_sent new_sent a opened =
       elim a.act_done [
         | inl n ↦ subst (AllOpen meaning problem) (sym n.1) opened
@@ -159,14 +161,14 @@ module _ {S N K Sum Q : Type 0} (meaning : Ghosts S N K) (problem : S) (keying :
   first-visit (Ranked rank) plain ranked root first now after node worth held is same of_root nothing whole v = absurd (cc)
 
   -- the task's node is next, and nothing was done yet
-  pub awaits-start : IsRanked (meaning.sound problem) (meaning.children problem) (meaning.rank problem) → meaning.sound problem (meaning.root problem) → (first now : Scene S N K Sum Q) (node : N) → IsTask meaning problem task node → now.seat ≡ first.seat → now.hand ≡ first.hand → now.sent ≡ first.sent → now.answers ≡ first.answers → now.state ≡ policy.start first.state → now.log ≡ log_after first.log (taken task ∷ []) → AwaitsNode meaning problem keying join of policy task first now [] task node
-  awaits-start ranked root first now node is same_seat same_hand same_sent same_answers started logged = record {
+  pub awaits-start : {did : List OutletCall → Type 0} → IsRanked (meaning.sound problem) (meaning.children problem) (meaning.rank problem) → meaning.sound problem (meaning.root problem) → (first now : Scene S N K Sum Q) (node : N) → IsTask meaning problem task node → now.seat ≡ first.seat → now.hand ≡ first.hand → now.sent ≡ first.sent → now.answers ≡ first.answers → now.state ≡ policy.start first.state → now.log ≡ log_after first.log (taken task ∷ []) → did [] → AwaitsNode meaning problem keying join of policy task did first now [] task node
+  awaits-start ranked root first now node is same_seat same_hand same_sent same_answers started logged none = record {
     notes = [];
     frames = [];
     answers = [];
     tasks = [];
     members = [];
-    way = subst (λ s. IsUnderWay meaning problem keying task first.seat s [] [] [] (task ∷ [])) (sym same_seat) (underway-start meaning problem keying task first.seat);
+    way = subst (λ s. IsUnderWay meaning problem keying task first.seat s [] [] [] (task ∷ [])) (sym same_seat) (underway-start meaning problem keying task (found-there meaning problem keying task task node is) first.seat);
     next = (refl, refl);
     has_policy = policy-start t policy first.state;
     state_is = sym started;
@@ -182,11 +184,12 @@ module _ {S N K Sum Q : Type 0} (meaning : Ghosts S N K) (problem : S) (keying :
     tasks_are = same-refl [];
     sound = tt;
     answers_are = same_answers ∙ none-given first.answers;
+    calls_are = none;
   }
 
   -- with no level left, the walk is a whole segment
-  pub walking-walked : {fits : Sum → Type 0} {none : Sum} → IsTally fits join none → ((n : N) (depth : ℕ) → fits (of n depth)) → (first now : Scene S N K Sum Q) (stack : List (LevelValue K)) → fits first.hand.sum → stack ≡ [] → IsWalking meaning problem keying join of policy task first now stack → IsWalked meaning problem keying join of policy task none first now
-  walking-walked {fits} {none} tally of_fits first now stack fit empty w = record {
+  pub walking-walked : {fits : Sum → Type 0} {none : Sum} {did : List OutletCall → Type 0} → IsTally fits join none → ((n : N) (depth : ℕ) → fits (of n depth)) → (first now : Scene S N K Sum Q) (stack : List (LevelValue K)) → fits first.hand.sum → stack ≡ [] → IsWalking meaning problem keying join of policy task did first now stack → IsWalked meaning problem keying join of policy task none did first now
+  walking-walked {fits} {none} {did} tally of_fits first now stack fit empty w = record {
     notes = taken task ∷ w.notes;
     answers = w.answers;
     tasks = w.tasks;
@@ -206,4 +209,5 @@ module _ {S N K Sum Q : Type 0} (meaning : Ghosts S N K) (problem : S) (keying :
     tasks_are = w.tasks_are;
     sound = w.sound;
     answers_are = w.answers_are;
+    calls_are = subst did (sym (calls-taken policy (policy.start first.state) task w.notes w.answers)) w.calls_are;
   }

@@ -8,6 +8,7 @@ pub mod KeyOrder
 pub mod LowestLevels
 pub mod Noted
 pub mod OpenPaths
+pub mod OutletCalls
 pub mod Parts
 pub mod PlainLogs
 pub mod PlainRuns
@@ -26,4 +27,5 @@ pub mod WalkEnds
 pub mod WalkSteps
 pub mod Walkings
 pub mod WholeSums
+pub mod WorkerLogs
 pub mod Worths

@@ -15,7 +15,7 @@ use Rattle.yew_walk.specs.PolicyStates.{policy_state}
 events-append : (xs ys : List Note) → length (event_paths (xs ++ ys)) ≡ length (event_paths xs) + length (event_paths ys)
 events-append xs ys = ap length (flat_map-append event_in xs ys) ∙ length-append (event_paths xs) (event_paths ys)
 
-no_answers : (notes : List Note) → policy_inputs notes [] ≡ []
+pub no_answers : (notes : List Note) → policy_inputs notes [] ≡ []
 no_answers [] = refl
 no_answers (note ∷ notes) = refl
 
@@ -102,11 +102,11 @@ act-no_events on children = refl
 act-no_events (spawn part) children = no_events spawned (λ p. refl) (part_of part children)
 act-no_events (hand part) children = no_events handed (λ p. refl) (part_of part children)
 
-spawned_group : (ps : List (List ℕ)) → group_of (map spawned ps) ≡ map spawned ps
+pub spawned_group : (ps : List (List ℕ)) → group_of (map spawned ps) ≡ map spawned ps
 spawned_group [] = refl
 spawned_group (p ∷ ps) = ap (λ g. spawned p ∷ g) (spawned_group ps)
 
-handed_group : (ps : List (List ℕ)) → group_of (map handed ps) ≡ map handed ps
+pub handed_group : (ps : List (List ℕ)) → group_of (map handed ps) ≡ map handed ps
 handed_group [] = refl
 handed_group (p ∷ ps) = ap (λ g. handed p ∷ g) (handed_group ps)
 
@@ -134,7 +134,7 @@ at_event P (taken path) wanted holds = tt
 at_event P (spawned path) wanted holds = tt
 at_event P (handed path) wanted holds = tt
 
-begins_no_group : (note : Note) (wanted : Bool) (input : PolicyInput) (ns : List Note) → input_of note wanted ≡ input ∷ [] → group_of (note ∷ ns) ≡ []
+pub begins_no_group : (note : Note) (wanted : Bool) (input : PolicyInput) (ns : List Note) → input_of note wanted ≡ input ∷ [] → group_of (note ∷ ns) ≡ []
 begins_no_group (visited path x h) wanted input ns e = refl
 begins_no_group (cut path b h) wanted input ns e = refl
 begins_no_group (ended path) wanted input ns e = refl

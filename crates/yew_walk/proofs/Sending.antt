@@ -9,6 +9,7 @@ use Rattle.yew_laws.specs.SearchTree.{SearchTree, search_tree}
 use Rattle.yew_log.specs.declared.entry.What.{What}
 use Rattle.yew_log.specs.declared.entry.What.TheVariants.{Taken, Visited, Cut, Spawned, Handed, Ended}
 use Rattle.yew_log.specs.Notes.{Note, taken, visited, cut, spawned, handed, ended, visits, sent_paths}
+use Rattle.yew_log.specs.Groups.{group_of}
 use Rattle.yew_log.proofs.Frames.{Frame}
 use Rattle.yew_stack.specs.Levels.{LevelValue, LevelView, levels}
 use Rattle.yew_stack.specs.Splits.{paths_of, MovesLowest}
@@ -16,6 +17,7 @@ use Rattle.yew_walk.specs.declared.keying.Keying.{Keying}
 use Rattle.yew_walk.specs.LogViews.{LogView, noted, all_noted, log_after}
 use Rattle.yew_walk.specs.Sharing.{IsSplitOff}
 use Rattle.yew_walk.specs.UnderWay.{AreAligned, IsOfLevel, IsUnderWay}
+use Rattle.yew_walk.proofs.PolicyInputs.{spawned_group, handed_group}
 use Rattle.yew_walk.proofs.SentNotes.{IsSentNote, spawned-sent, handed-sent, underway-sends}
 use Rattle.yew_walk.proofs.WalkEnds.{underway-splits, split-aligned, split-hosts}
 
@@ -51,12 +53,13 @@ module _ {S N K : Type 0} (meaning : Ghosts S N K) (problem : S) (keying : Keyin
   pub record Sends (made : List ℕ → Note) (what : What) : Type 0 where
     pub sent : (path : List ℕ) → IsSentNote meaning problem keying task (made path) path
     pub notes_are : (log : LogView) (ps : List (List ℕ)) → all_noted log what ps ≡ log_after log (map made ps)
+    pub is_group : (ps : List (List ℕ)) → group_of (map made ps) ≡ map made ps
 
   pub spawned-sends : Sends spawned Spawned
-  spawned-sends = record { sent = spawned-sent meaning problem keying task; notes_are = all_spawned }
+  spawned-sends = record { sent = spawned-sent meaning problem keying task; notes_are = all_spawned; is_group = spawned_group }
 
   pub handed-sends : Sends handed Handed
-  handed-sends = record { sent = handed-sent meaning problem keying task; notes_are = all_handed }
+  handed-sends = record { sent = handed-sent meaning problem keying task; notes_are = all_handed; is_group = handed_group }
 
   module _ (made : List ℕ → Note) (what : What) (sends : Sends made what) where
     -- the entries make no visit, and send these paths

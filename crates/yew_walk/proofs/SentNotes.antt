@@ -2,15 +2,17 @@
 use Rattle.std.proofs.Common.{◌≡◌, ◌≢◌, ℕ, ◌+◌, List, [], ◌∷◌, ◌++◌, map, Some, refl, ap, ap₂, sym, subst, ◌∙◌, arith, append_assoc, append-nil}
 use mathlib.Core.List.{reverse}
 use Rattle.std.specs.List.{AllByRecursion, Contains, flat_map, sum_by}
+use Rattle.std.specs.Prelude.{IsSome}
+use Rattle.std.proofs.lemmas.List.Concat.{flat_map-append}
 use Rattle.std.proofs.lemmas.List.Elements.{All-contains, All-from_recursion}
 use Rattle.std.proofs.lemmas.List.Sums.{sum_by-append}
 use Rattle.yew_best.specs.Seats.{SeatView}
 use Rattle.yew_laws.specs.declared.problem.Problem.{Ghosts}
-use Rattle.yew_laws.specs.SearchTree.{SearchTree, search_tree, worth_at, bound_at, below}
+use Rattle.yew_laws.specs.SearchTree.{SearchTree, search_tree, at_path, worth_at, bound_at, below}
 use Rattle.yew_laws.specs.Tree.{Member, paths}
 use Rattle.yew_laws.proofs.Below.{AtOrBelow}
-use Rattle.yew_laws.proofs.Members.{AllByRecursion-weaker, Contains-map}
-use Rattle.yew_log.specs.Notes.{Note, taken, visited, spawned, handed, Judgement, taken_in, visit_in, cut_in, sent_in, judgement_in}
+use Rattle.yew_laws.proofs.Members.{AllByRecursion-append, AllByRecursion-weaker, Contains-map}
+use Rattle.yew_log.specs.Notes.{Note, taken, visited, spawned, handed, Judgement, taken_in, visit_in, cut_in, sent_in, judgement_in, sent_paths}
 use Rattle.yew_log.specs.Segment.{IsValued, covered_paths}
 use Rattle.yew_log.proofs.Frames.{Frame, with_more, AreFrames, around-more, frames-spawned, frames-handed}
 use Rattle.yew_log.proofs.Growth.{IsValued-append, covered_paths-append}
@@ -71,7 +73,7 @@ module _ {S N K : Type 0} (meaning : Ghosts S N K) (problem : S) (keying : Keyin
     pub no_judgement : judgement_in note ≡ []
     pub no_taken : taken_in note ≡ []
     pub sent_is : sent_in note ≡ path ∷ []
-    pub goes : (seat : SeatView) → SeatGoes keying seat (note ∷ []) seat
+    pub goes : (seat : SeatView) → SeatGoes t keying seat (note ∷ []) seat
     pub frames : (f : Frame) (fs : List Frame) (host : List ℕ) (number : ℕ) → path ≡ host ++ number ∷ [] → AreFrames task (f ∷ fs) → AtOrBelow host f.path → AreFrames task (with_more f f.next (note ∷ []) ∷ fs)
 
   pub spawned-sent : (path : List ℕ) → IsSentNote (spawned path) path
@@ -132,7 +134,7 @@ module _ {S N K : Type 0} (meaning : Ghosts S N K) (problem : S) (keying : Keyin
       let other : IsOther t keying note = record { no_visit = is.no_visit; no_cut = is.no_cut; no_judgement = is.no_judgement } in (
         shape.0,
         record {
-          goes = goes-append keying first now now notes (note ∷ []) u.goes (is.goes now);
+          goes = goes-append t keying first now now notes (note ∷ []) u.goes (is.goes now);
           shape = shape.1.0;
           aligned = shape.1.1;
           covered = record {
@@ -146,6 +148,9 @@ module _ {S N K : Type 0} (meaning : Ghosts S N K) (problem : S) (keying : Keyin
                 let d2 = sum_by-append w (paths (coming ls)) (flat_map (below t) between) in
                 omega (arith, before, c0, c1, c2, d0, d1, d2);
           };
+          task_there = u.task_there;
+          sent_there = subst (AllByRecursion (λ p. IsSome (at_path t p))) (ap (λ ps. sent_paths notes ++ (ps ++ [])) (sym is.sent_is) ∙ sym (flat_map-append sent_in notes (note ∷ []))) (AllByRecursion-append (λ p. IsSome (at_path t p)) (sent_paths notes) (path ∷ []) u.sent_there (u.between_there.0, tt));
+          between_there = u.between_there.1;
           valued = IsValued-append t notes (note ∷ []) u.valued (quiet-valued note is.no_visit is.no_cut);
           rises = rises-quiet t keying (taken task ∷ notes) note other u.rises;
           judged = judged-other t keying (taken task ∷ notes) note other u.judged;

@@ -197,19 +197,19 @@ module _ {N : Type 0} (t : SearchTree N) where
         record { is = sequence-start-log root ∙ ap (λ h. taken [] ∷ (visited [] (t.worth t.root) 0 ∷ rest_notes t (level ∷ []) h)) same }
 
 -- what a seat with plain keys has offered along entries: the worths of the visits
-pub goes-offered : (old new : SeatView) (notes : List Note) → SeatGoes Plain old notes new → new.offered ≡ old.offered ++ values (visits notes)
-goes-offered old new [] goes = ap (λ (s : SeatView). s.offered) goes ∙ sym (append-nil old.offered)
-goes-offered old new (visited path worth held ∷ notes) goes =
-    goes-offered (has_offered (has_read old goes.0) worth) new notes goes.3 ∙ append_assoc old.offered (worth ∷ []) (values (visits notes))
-goes-offered old new (cut path bound held ∷ notes) goes = goes-offered (has_read old goes.0) new notes goes.3
-goes-offered old new (taken path ∷ notes) goes = goes-offered old new notes goes
-goes-offered old new (spawned path ∷ notes) goes = goes-offered old new notes goes
-goes-offered old new (handed path ∷ notes) goes = goes-offered old new notes goes
-goes-offered old new (ended path ∷ notes) goes = goes-offered old new notes goes
+pub goes-offered : {N : Type 0} (t : SearchTree N) (old new : SeatView) (notes : List Note) → SeatGoes t Plain old notes new → new.offered ≡ old.offered ++ values (visits notes)
+goes-offered t old new [] goes = ap (λ (s : SeatView). s.offered) goes ∙ sym (append-nil old.offered)
+goes-offered t old new (visited path worth held ∷ notes) goes =
+    goes-offered t (has_offered (has_read old goes.0) worth) new notes goes.2 ∙ append_assoc old.offered (worth ∷ []) (values (visits notes))
+goes-offered t old new (cut path bound held ∷ notes) goes = goes-offered t (has_read old goes.0) new notes goes.2
+goes-offered t old new (taken path ∷ notes) goes = goes-offered t old new notes goes
+goes-offered t old new (spawned path ∷ notes) goes = goes-offered t old new notes goes
+goes-offered t old new (handed path ∷ notes) goes = goes-offered t old new notes goes
+goes-offered t old new (ended path ∷ notes) goes = goes-offered t old new notes goes
 
 -- the word that a seat with the whole share reads next is the greatest worth so far
-pub sequence-word : (first now : SeatView) (notes : List Note) (word : ℕ) → SeatGoes Plain first notes now → first.offered ≡ [] → first.share ≡ first.best.seats → IsRead now word → word ≡ visited_worth notes
-sequence-word first now notes word goes nothing whole read =
-    let stays = goes-stays Plain first now notes goes in
+pub sequence-word : {N : Type 0} (t : SearchTree N) (first now : SeatView) (notes : List Note) (word : ℕ) → SeatGoes t Plain first notes now → first.offered ≡ [] → first.share ≡ first.best.seats → IsRead now word → word ≡ visited_worth notes
+sequence-word t first now notes word goes nothing whole read =
+    let stays = goes-stays t Plain first now notes goes in
     IsRead-maximum now word (stays.share ∙ whole ∙ ap (λ b. b.seats) (sym stays.best)) read
-    ∙ ap maximum (goes-offered first now notes goes ∙ ap (λ xs. xs ++ values (visits notes)) nothing)
+    ∙ ap maximum (goes-offered t first now notes goes ∙ ap (λ xs. xs ++ values (visits notes)) nothing)

@@ -1,20 +1,21 @@
 -- A walk stays under way: what a node that is visited or cut and a level that ends make of it.
 use Rattle.std.proofs.Common.{◌≡◌, ◌≢◌, ℕ, suc, ◌+◌, ◌<◌, ◌≤◌, List, [], ◌∷◌, ◌++◌, map, Some, ◌⊎◌, inl, inr, refl, ap, ap₂, sym, subst, ◌∙◌, arith, append-nil}
 use mathlib.Core.List.{reverse}
-use Rattle.std.specs.List.{flat_map, sum_by}
+use Rattle.std.specs.Prelude.{IsSome, IfSome}
+use Rattle.std.specs.List.{AllByRecursion, flat_map, sum_by}
 use Rattle.std.proofs.lemmas.List.{reverse-append, map-append}
 use Rattle.std.proofs.lemmas.List.Concat.{flat_map-append}
 use Rattle.std.proofs.lemmas.List.Sums.{sum_by-append}
 use Rattle.yew_best.specs.Seats.{SeatView}
 use Rattle.yew_laws.specs.declared.problem.Problem.{Ghosts}
 use Rattle.yew_laws.specs.declared.problem.Task.{Task}
-use Rattle.yew_laws.specs.SearchTree.{SearchTree, search_tree, bound_at, below, below_node, IsTask}
+use Rattle.yew_laws.specs.SearchTree.{SearchTree, search_tree, at_path, bound_at, below, below_node, IsTask}
 use Rattle.yew_laws.specs.Tree.{Member, paths, prefixed, forest, IsRanked}
 use Rattle.yew_laws.proofs.Members.{AllByRecursion-append}
 use Rattle.yew_laws.proofs.Trees.{tree-unfolds}
 use Rattle.std.specs.Option.{option_map}
 use Rattle.yew_log.specs.HeldValues.{IsDue}
-use Rattle.yew_log.specs.Notes.{Note, taken, visited, cut, spawned, handed, ended, Judgement, judgement, taken_in, visit_in, cut_in, sent_in, taken_paths}
+use Rattle.yew_log.specs.Notes.{Note, taken, visited, cut, spawned, handed, ended, Judgement, judgement, taken_in, visit_in, cut_in, sent_in, taken_paths, sent_paths}
 use Rattle.yew_log.specs.Segment.{Begins, covered_paths}
 use Rattle.yew_log.proofs.Blocks.{IsBlock, block-cut}
 use Rattle.yew_log.proofs.Frames.{Frame, frame, with_more, around, AreFrames, around-more, around-visit, frames-block, frames-visit, frames-first}
@@ -50,6 +51,15 @@ module _ {S N K : Type 0} (meaning : Ghosts S N K) (problem : S) (keying : Keyin
   abbrev coming : List (LevelView N) → List (Member N)
   coming ls = levels_to_come (node_tree meaning problem) ls
 
+  abbrev IsThere : List ℕ → Type 0
+  IsThere path = IsSome (at_path t path)
+
+  pub found-there : (path : List ℕ) (node : N) → IsTask meaning problem path node → IsThere path
+  found-there path node is = subst IsSome (sym is.found) refl
+
+  sent-push : (notes : List Note) (note : Note) → sent_in note ≡ [] → sent_paths (notes ++ note ∷ []) ≡ sent_paths notes
+  sent-push notes note none = flat_map-append sent_in notes (note ∷ []) ∙ ap (λ ps. sent_paths notes ++ (ps ++ [])) none ∙ append-nil (sent_paths notes)
+
   -- the paths at and below a node, and those to come of its level
   node-below : Ranked → (path : List ℕ) (node : N) → IsTask meaning problem path node → below t path ≡ path ∷ paths (prefixed path (forest (node_tree meaning problem) 0 (meaning.children problem node)))
   node-below ranked path node is =
@@ -67,12 +77,15 @@ module _ {S N K : Type 0} (meaning : Ghosts S N K) (problem : S) (keying : Keyin
   tops-push ls level = reverse-append ls (level ∷ [])
 
   -- nothing was done yet
-  pub underway-start : (seat : SeatView) → UnderWay seat seat [] [] [] (task ∷ [])
-  underway-start seat = record {
+  pub underway-start : IsSome (at_path t task) → (seat : SeatView) → UnderWay seat seat [] [] [] (task ∷ [])
+  underway-start there seat = record {
     goes = refl;
     shape = inl refl;
     aligned = tt;
     covered = record { weighs = λ w. ap (sum_by w) (append-nil (below t task)) };
+    task_there = there;
+    sent_there = tt;
+    between_there = (there, tt);
     valued = record { worths = tt; bounds = tt };
     rises = (tt, tt);
     judged = record { visits_due = (tt, tt); cuts_below = tt; cuts_permitted = tt };
@@ -107,6 +120,9 @@ module _ {S N K : Type 0} (meaning : Ghosts S N K) (problem : S) (keying : Keyin
                 let d2 = ap (sum_by w) (append-nil (below t given.path.numbers)) in
                 omega (arith, before, c0, c1, c2, c3, c4, c5, d0, d1, d2);
           };
+          task_there = u.task_there;
+          sent_there = u.sent_there;
+          between_there = (found-there given.path.numbers given.node opened.1, tt);
           valued = u.valued;
           rises = u.rises;
           judged = u.judged;
@@ -161,7 +177,7 @@ module _ {S N K : Type 0} (meaning : Ghosts S N K) (problem : S) (keying : Keyin
       record {
         frames = c.frames;
         is = record {
-          goes = goes-append keying first now now notes (ended path ∷ []) u.goes refl;
+          goes = goes-append t keying first now now notes (ended path ∷ []) u.goes refl;
           shape = c.shape;
           aligned = c.aligned;
           covered = record {
@@ -170,6 +186,9 @@ module _ {S N K : Type 0} (meaning : Ghosts S N K) (problem : S) (keying : Keyin
                 ∙ ap (λ (ms : List (Member N)). sum_by w (covered_paths t notes ++ (paths ms ++ []))) (sym (ends-to_come meaning problem old new path turn))
                 ∙ u.covered.weighs w;
           };
+          task_there = u.task_there;
+          sent_there = subst (AllByRecursion IsThere) (sym (sent-push notes (ended path) refl)) u.sent_there;
+          between_there = tt;
           valued = IsValued-append t notes (ended path ∷ []) u.valued (record { worths = tt; bounds = tt });
           rises = rises-quiet t keying (taken task ∷ notes) (ended path) (other-ended path) u.rises;
           judged = judged-other t keying (taken task ∷ notes) (ended path) (other-ended path) u.judged;
@@ -214,11 +233,11 @@ module _ {S N K : Type 0} (meaning : Ghosts S N K) (problem : S) (keying : Keyin
   underway-visit ranked first now after notes frames ls path node worth held is u next v =
       let level : LevelView N = record { parent = path; given = 0; remaining = meaning.children problem node } in
       let shape = visit-shape notes frames (reverse ls) path worth held level refl u.shape u.aligned next in
-      let knows = goes-knows keying first now (taken task ∷ notes) u.goes in
+      let knows = goes-knows t keying first now (taken task ∷ notes) u.goes in
       let bound = meaning.bound problem node in
       let stands : bound_at t path ≡ Some bound = ap (λ o. option_map (meaning.bound problem) o) is.found in
       record {
-        goes = goes-append keying first now after notes (visited path worth held ∷ []) u.goes (v.word, v.is_read, v.held_is, v.seat_is);
+        goes = goes-append t keying first now after notes (visited path worth held ∷ []) u.goes (v.word, record { is_read = v.is_read; held_is = v.held_is; due = λ inner. subst (λ o. IfSome o (λ b. v.word < key_of keying b)) (sym stands) (above inner v.due) }, v.seat_is);
         shape = shape.0;
         aligned = subst (AreAligned (frame path worth held 0 [] ∷ frames)) (sym (tops-push ls level)) shape.1;
         covered = record {
@@ -238,6 +257,9 @@ module _ {S N K : Type 0} (meaning : Ghosts S N K) (problem : S) (keying : Keyin
               let total : sum_by w (covered_paths t (notes ++ visited path worth held ∷ [])) + sum_by w (paths (coming (ls ++ level ∷ [])) ++ []) ≡ sum_by w (below t task) = omega (arith, before, c0, c1, c2, c3, d1, d2, d3, d4, d5) in
               d0 ∙ total;
         };
+        task_there = u.task_there;
+        sent_there = subst (AllByRecursion IsThere) (sym (sent-push notes (visited path worth held) refl)) u.sent_there;
+        between_there = tt;
         valued = IsValued-append t notes (visited path worth held ∷ []) u.valued (record { worths = (ap (λ o. option_map (meaning.worth problem) o) is.found ∙ ap (λ (n : ℕ). Some n) (sym v.worth_is), tt); bounds = tt });
         rises = rises-visit t keying (taken task ∷ notes) path worth held (knows-later keying now (taken task ∷ notes) v.word (judgement path worth held) knows v.is_read v.held_is) u.rises;
         judged = judged-visit t keying (taken task ∷ notes) path worth held u.judged (λ inner. due inner knows stands v.due);
@@ -246,6 +268,10 @@ module _ {S N K : Type 0} (meaning : Ghosts S N K) (problem : S) (keying : Keyin
         levels_open = AllByRecursion-append Open ls (level ∷ []) u.levels_open (open-new ranked path node (meaning.children problem node) is.found is.is_sound refl, tt);
       }
     where
+      above : path ≢ [] → (path ≡ []) ⊎ (v.word < key_of keying (meaning.bound problem node)) → v.word < key_of keying (meaning.bound problem node)
+      above inner (inl root) = absurd (inner root)
+      above inner (inr over) = over
+
       due : path ≢ [] → Knows keying now (taken task ∷ notes) → bound_at t path ≡ Some (meaning.bound problem node) → (path ≡ []) ⊎ (v.word < key_of keying (meaning.bound problem node)) → IsDue t 0 (kind_of keying) (taken task ∷ notes) (judgement path worth held)
       due inner k at (inl root) = absurd (inner root)
       due inner k at (inr above) = due-above t keying now (taken task ∷ notes) v.word (meaning.bound problem node) (judgement path worth held) k v.is_read v.held_is at above
@@ -277,12 +303,12 @@ module _ {S N K : Type 0} (meaning : Ghosts S N K) (problem : S) (keying : Keyin
   pub underway-cut : (first now after : SeatView) (notes : List Note) (frames : List Frame) (ls : List (LevelView N)) (path : List ℕ) (node : N) (bound held : ℕ) → IsTask meaning problem path node → UnderWay first now notes frames ls (path ∷ []) → IsNext task notes frames (reverse ls) path → IsCut meaning problem keying path node bound held now after → Closed first after (notes ++ cut path bound held ∷ []) ls
   underway-cut first now after notes frames ls path node bound held is u next v =
       let shape = cut-shape notes frames (reverse ls) path bound held u.shape u.aligned next in
-      let knows = goes-knows keying first now (taken task ∷ notes) u.goes in
+      let knows = goes-knows t keying first now (taken task ∷ notes) u.goes in
       let low : bound ≤ held = let h = held_of-key_of keying (meaning.bound problem node) v.word v.permitted in omega (arith, h, v.bound_is, v.held_is) in
       record {
         frames = shape.0;
         is = record {
-          goes = goes-append keying first now after notes (cut path bound held ∷ []) u.goes (v.word, v.is_read, v.held_is, v.seat_is);
+          goes = goes-append t keying first now after notes (cut path bound held ∷ []) u.goes (v.word, record { is_read = v.is_read; held_is = v.held_is; permitted = subst (λ b. key_of keying b ≤ v.word) (sym v.bound_is) v.permitted }, v.seat_is);
           shape = shape.1.0;
           aligned = shape.1.1;
           covered = record {
@@ -296,6 +322,9 @@ module _ {S N K : Type 0} (meaning : Ghosts S N K) (problem : S) (keying : Keyin
                 let d2 = sum_by-append w (paths (coming ls)) [] in
                 omega (arith, before, c0, c1, c2, d0, d1, d2);
           };
+          task_there = u.task_there;
+          sent_there = subst (AllByRecursion IsThere) (sym (sent-push notes (cut path bound held) refl)) u.sent_there;
+          between_there = tt;
           valued = IsValued-append t notes (cut path bound held ∷ []) u.valued (record { worths = tt; bounds = (ap (λ o. option_map (meaning.bound problem) o) is.found ∙ ap (λ (n : ℕ). Some n) (sym v.bound_is), tt) });
           rises = rises-cut t keying (taken task ∷ notes) path bound held (knows-later keying now (taken task ∷ notes) v.word (judgement path bound held) knows v.is_read v.held_is) u.rises;
           judged = judged-cut t keying (taken task ∷ notes) path bound held u.judged v.inner low;

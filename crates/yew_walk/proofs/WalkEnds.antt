@@ -1,6 +1,7 @@
 -- Tasks that a walk splits off, and what the entries of a walk are: a whole segment in the end, and one that is broken off before.
 use Rattle.std.proofs.Common.{◌≡◌, ◌≢◌, ℕ, suc, ◌≤◌, List, [], ◌∷◌, ◌++◌, ◌⊎◌, inl, inr, refl, ap, ap₂, sym, subst, ◌∙◌, arith, append_assoc, append-nil}
 use mathlib.Core.List.{reverse}
+use Rattle.std.specs.Prelude.{IsSome}
 use Rattle.std.specs.List.{AllByRecursion, Contains, flat_map, sum_by}
 use Rattle.std.proofs.lemmas.List.{reverse-append, map-append}
 use Rattle.std.proofs.lemmas.List.Elements.{Contains-append_right}
@@ -9,8 +10,8 @@ use Rattle.yew_best.specs.Seats.{SeatView}
 use Rattle.yew_laws.specs.declared.problem.Problem.{Ghosts}
 use Rattle.yew_laws.specs.declared.problem.Task.{Task}
 use Rattle.yew_laws.specs.Bag.{SameBag}
-use Rattle.yew_laws.specs.SearchTree.{SearchTree, search_tree, below, below_node, numbered, IsTask}
-use Rattle.yew_laws.specs.Tree.{Member, paths}
+use Rattle.yew_laws.specs.SearchTree.{SearchTree, search_tree, at_path, below, below_node, numbered, IsTask}
+use Rattle.yew_laws.specs.Tree.{Member, paths, IsRanked}
 use Rattle.yew_laws.proofs.Bags.{same-map}
 use Rattle.yew_laws.proofs.Members.{Contains-head}
 use Rattle.yew_log.specs.Notes.{Note, taken}
@@ -27,6 +28,7 @@ use Rattle.yew_stack.specs.ToCome.{to_come, levels_to_come, task_members, node_t
 use Rattle.yew_walk.specs.declared.keying.Keying.{Keying}
 use Rattle.yew_walk.specs.Keys.{kind_of}
 use Rattle.yew_walk.specs.UnderWay.{AreBelow, AreAligned, HasShape, IsOfLevel, IsUnderWay}
+use Rattle.yew_walk.proofs.UnderWays.{found-there}
 
 module _ {S N K : Type 0} (meaning : Ghosts S N K) (problem : S) (keying : Keying) (task : List ℕ) where
   abbrev t : SearchTree N
@@ -67,6 +69,10 @@ module _ {S N K : Type 0} (meaning : Ghosts S N K) (problem : S) (keying : Keyin
       map-append (λ (m : Member N). m.path) (task_members meaning problem first) (flat_map (task_members meaning problem) tasks)
       ∙ ap₂ (λ (xs ys : List (List ℕ)). xs ++ ys) (sym (ap (below_node t first.path.numbers) all.0.found)) (tasks-below tasks all.1)
 
+  tasks-there : (tasks : List (Task S N K)) → AllByRecursion (λ task'. IsTask meaning problem task'.path.numbers task'.node) tasks → AllByRecursion (λ path. IsSome (at_path t path)) (paths_of tasks)
+  tasks-there [] all = tt
+  tasks-there (first ∷ tasks) all = (found-there meaning problem keying task first.path.numbers first.node all.0, tasks-there tasks all.1)
+
   -- tasks that are split off stand between the levels and the entries
   pub underway-splits : (first now : SeatView) (notes : List Note) (frames : List Frame) (old new : List (LevelValue K)) (tasks : List (Task S N K)) → UnderWay first now notes frames (seen old) [] → AreAligned frames (tops new) → AllOpen meaning problem new → AllByRecursion (λ task'. IsTask meaning problem task'.path.numbers task'.node) tasks → SameBag (to_come meaning problem old) (to_come meaning problem new ++ flat_map (task_members meaning problem) tasks) → UnderWay first now notes frames (seen new) (paths_of tasks)
   underway-splits first now notes frames old new tasks u aligned levels_open are same = record {
@@ -86,6 +92,9 @@ module _ {S N K : Type 0} (meaning : Ghosts S N K) (problem : S) (keying : Keyin
           let d1 = sum_by-append w (paths (to_come meaning problem new)) (flat_map (below t) (paths_of tasks)) in
           omega (arith, before, c0, c1, moved, c2, c3, c4, d0, d1);
     };
+    task_there = u.task_there;
+    sent_there = u.sent_there;
+    between_there = tasks-there tasks are;
     valued = u.valued;
     rises = u.rises;
     judged = u.judged;
@@ -119,26 +128,26 @@ module _ {S N K : Type 0} (meaning : Ghosts S N K) (problem : S) (keying : Keyin
   shape-open notes [] (inr block) = open-block task notes block
   shape-open notes (f ∷ fs) s = subst (IsOpenBlock task) (sym s.0) (frames-open task f fs s.1)
 
-  pub underway-broken : (first now : SeatView) (notes : List Note) (frames : List Frame) (ls : List (LevelView N)) (between : List (List ℕ)) → UnderWay first now notes frames ls between → IsBroken t (segment task notes)
-  underway-broken first now notes frames ls between u =
-      broken-from_open t task notes (shape-open notes frames u.shape) u.untaken u.begins
+  pub underway-broken : IsRanked (meaning.sound problem) (meaning.children problem) (meaning.rank problem) → meaning.sound problem (meaning.root problem) → (first now : SeatView) (notes : List Note) (frames : List Frame) (ls : List (LevelView N)) (between : List (List ℕ)) → UnderWay first now notes frames ls between → IsBroken t (segment task notes)
+  underway-broken ranked root first now notes frames ls between u =
+      broken-from_open t ranked root task notes (shape-open notes frames u.shape) u.untaken u.begins
       (record { weighs = λ w. let c = u.covered.weighs w in let s = sum_by-append w (covered_paths t notes) (paths (levels_to_come (node_tree meaning problem) ls) ++ flat_map (below t) between) in omega (arith, c, s) })
-      u.valued
+      u.valued u.task_there u.sent_there
 
   one-segment : (notes : List Note) → taken task ∷ notes ≡ entries (segment task notes ∷ [])
   one-segment notes = sym (append-nil (taken task ∷ notes))
 
-  pub underway-broken_walk : (first now : SeatView) (notes : List Note) (frames : List Frame) (ls : List (LevelView N)) (between : List (List ℕ)) → UnderWay first now notes frames ls between → IsBrokenWalk t 0 (kind_of keying) task (taken task ∷ notes)
-  underway-broken_walk first now notes frames ls between u = record {
+  pub underway-broken_walk : IsRanked (meaning.sound problem) (meaning.children problem) (meaning.rank problem) → meaning.sound problem (meaning.root problem) → (first now : SeatView) (notes : List Note) (frames : List Frame) (ls : List (LevelView N)) (between : List (List ℕ)) → UnderWay first now notes frames ls between → IsBrokenWalk t 0 (kind_of keying) task (taken task ∷ notes)
+  underway-broken_walk ranked root first now notes frames ls between u = record {
     keeps = record {
       segments = segment task notes ∷ [];
       cut_up = one-segment notes;
-      each = (underway-broken first now notes frames ls between u, tt);
+      each = (underway-broken ranked root first now notes frames ls between u, tt);
       only_last = ((λ e. refl), tt);
       held_rises = u.rises;
       due = u.judged;
     };
-    of_task = inr (notes, one-segment notes);
+    of_task = inr (notes, refl);
   }
 
   -- and with no level left and nothing between, a whole segment

@@ -17,7 +17,7 @@ use Rattle.yew_laws.proofs.Members.{AllByRecursion-append}
 use Rattle.yew_log.specs.declared.entry.What.{What}
 use Rattle.yew_log.specs.declared.entry.What.TheVariants.{Spawned, Handed}
 use Rattle.yew_log.specs.Notes.{Note, taken, visited, cut, spawned, handed, ended, visit_in, sent_in, visits, visited_paths, sent_paths, Judgement, judgement}
-use Rattle.yew_log.specs.Groups.{Part}
+use Rattle.yew_log.specs.Groups.{Part, group_of}
 use Rattle.yew_log.specs.Policies.{PolicyMeaning, HasPolicy, on, spawn, hand}
 use Rattle.yew_log.proofs.Frames.{Frame, frame}
 use Rattle.yew_log.proofs.Growth.{visited-append}
@@ -38,6 +38,7 @@ use Rattle.yew_walk.specs.Entering.{EntersVisit, EntersCut, Enters}
 use Rattle.yew_walk.specs.Hands.{incumbent_of, best_after, AreVisited}
 use Rattle.yew_walk.specs.Keys.{answer_key}
 use Rattle.yew_walk.specs.LogViews.{LogView, log_after, IsWithin}
+use Rattle.yew_walk.specs.Outlets.{OutletCall, was_asked, was_given, list_for, calls_at, outlet_calls}
 use Rattle.yew_walk.specs.PolicyStates.{policy_state, HasGoneOn}
 use Rattle.yew_walk.specs.Scenes.{Scene, sum_after, IsAlone, IsWalking, HasEvent}
 use Rattle.yew_walk.specs.Sharing.{IsShared, IsAsked}
@@ -48,6 +49,7 @@ use Rattle.yew_walk.specs.Verdicts.{IsVisit, IsCut}
 use Rattle.yew_walk.proofs.SeqRests.{sequence-visit, sequence-cut, sequence-end, sequence-word}
 use Rattle.yew_walk.proofs.BestVisits.{best_after-append}
 use Rattle.yew_walk.proofs.DealtLevels.{dealt-visit, dealt-cut, dealt-end}
+use Rattle.yew_walk.proofs.OutletCalls.{outlet_calls-event}
 use Rattle.yew_walk.proofs.PolicyTurns.{goes_on-on, goes_on-spawn, goes_on-hand}
 use Rattle.yew_walk.proofs.Sending.{log_after-append, Sends, spawned-sends, handed-sends, made-visits, made-sent_paths, underway-sends_some, underway-off}
 use Rattle.yew_walk.proofs.UnderWays.{underway-gives, underway-visit, underway-cut, underway-ends}
@@ -107,17 +109,17 @@ module _ {S N K : Type 0} (meaning : Ghosts S N K) (problem : S) where
   AllByRecursion-first : IsRanked (meaning.sound problem) (meaning.children problem) (meaning.rank problem) → (old new : List (LevelValue K)) (given : Task S N K) → AllOpen meaning problem old → TopGives (levels (meaning.remaining problem) old) given.path.numbers given.node (levels (meaning.remaining problem) new) → meaning.sound problem given.node
   AllByRecursion-first ranked old new given opened turn = (gives-open meaning problem ranked old new given turn opened).1.is_sound
 
-  sequence-visits : (keying : Keying) → keying ≡ Plain → IsRanked (meaning.sound problem) (meaning.children problem) (meaning.rank problem) → (first now after : SeatView) (notes : List Note) (old mid : List (LevelView N)) (path : List ℕ) (node : N) (worth held : ℕ) → IsInSequence tree notes old → TopGives old path node mid → meaning.sound problem node → SeatGoes keying first notes now → first.offered ≡ [] → first.share ≡ first.best.seats → IsVisit meaning problem keying path node worth held now after → IsInSequence tree (notes ++ visited path worth held ∷ []) (mid ++ record { parent = path; given = 0; remaining = meaning.children problem node } ∷ [])
+  sequence-visits : (keying : Keying) → keying ≡ Plain → IsRanked (meaning.sound problem) (meaning.children problem) (meaning.rank problem) → (first now after : SeatView) (notes : List Note) (old mid : List (LevelView N)) (path : List ℕ) (node : N) (worth held : ℕ) → IsInSequence tree notes old → TopGives old path node mid → meaning.sound problem node → SeatGoes tree keying first notes now → first.offered ≡ [] → first.share ≡ first.best.seats → IsVisit meaning problem keying path node worth held now after → IsInSequence tree (notes ++ visited path worth held ∷ []) (mid ++ record { parent = path; given = 0; remaining = meaning.children problem node } ∷ [])
   sequence-visits Plain plain ranked first now after notes old mid path node worth held seq turn s goes nothing whole v =
       subst (λ w. IsInSequence tree (notes ++ visited path w held ∷ []) (mid ++ record { parent = path; given = 0; remaining = meaning.children problem node } ∷ [])) (sym v.worth_is)
-      (sequence-visit tree ranked notes old mid path node held seq turn s (v.held_is ∙ sequence-word first now notes v.word goes nothing whole v.is_read)
+      (sequence-visit tree ranked notes old mid path node held seq turn s (v.held_is ∙ sequence-word tree first now notes v.word goes nothing whole v.is_read)
       (subst (λ h. h < meaning.bound problem node) (sym v.held_is) (elim v.due as (λ o. v.word < meaning.bound problem node) [ inl none ↦ absurd (push-some turn.top.parent turn.top.given (sym turn.gives.path_is ∙ none)) | inr over ↦ over ])))
   sequence-visits (Ranked rank) plain ranked first now after notes old mid path node worth held seq turn s goes nothing whole v = absurd (cc)
 
-  sequence-cuts : (keying : Keying) → keying ≡ Plain → (first now after : SeatView) (notes : List Note) (old mid : List (LevelView N)) (path : List ℕ) (node : N) (bound held : ℕ) → IsInSequence tree notes old → TopGives old path node mid → SeatGoes keying first notes now → first.offered ≡ [] → first.share ≡ first.best.seats → IsCut meaning problem keying path node bound held now after → IsInSequence tree (notes ++ cut path bound held ∷ []) mid
+  sequence-cuts : (keying : Keying) → keying ≡ Plain → (first now after : SeatView) (notes : List Note) (old mid : List (LevelView N)) (path : List ℕ) (node : N) (bound held : ℕ) → IsInSequence tree notes old → TopGives old path node mid → SeatGoes tree keying first notes now → first.offered ≡ [] → first.share ≡ first.best.seats → IsCut meaning problem keying path node bound held now after → IsInSequence tree (notes ++ cut path bound held ∷ []) mid
   sequence-cuts Plain plain first now after notes old mid path node bound held seq turn goes nothing whole v =
       subst (λ b. IsInSequence tree (notes ++ cut path b held ∷ []) mid) (sym v.bound_is)
-      (sequence-cut tree notes old mid path node held seq turn (v.held_is ∙ sequence-word first now notes v.word goes nothing whole v.is_read)
+      (sequence-cut tree notes old mid path node held seq turn (v.held_is ∙ sequence-word tree first now notes v.word goes nothing whole v.is_read)
       (subst (λ h. meaning.bound problem node ≤ h) (sym v.held_is) v.permitted))
   sequence-cuts (Ranked rank) plain first now after notes old mid path node bound held seq turn goes nothing whole v = absurd (cc)
 
@@ -125,10 +127,10 @@ module _ {S N K Sum Q : Type 0} (meaning : Ghosts S N K) (problem : S) (keying :
   abbrev t : SearchTree N
   t = search_tree meaning problem
 
-  abbrev Walking : Scene S N K Sum Q → Scene S N K Sum Q → List (LevelValue K) → Type 0
+  abbrev Walking : (List OutletCall → Type 0) → Scene S N K Sum Q → Scene S N K Sum Q → List (LevelValue K) → Type 0
   Walking = IsWalking meaning problem keying join of policy task
 
-  abbrev Happened : Scene S N K Sum Q → Scene S N K Sum Q → List (LevelValue K) → Event → ℕ → Type 0
+  abbrev Happened : (List OutletCall → Type 0) → Scene S N K Sum Q → Scene S N K Sum Q → List (LevelValue K) → Event → ℕ → Type 0
   Happened = HasEvent meaning problem keying join of policy task
 
   abbrev Falls : Type 0
@@ -141,7 +143,7 @@ module _ {S N K Sum Q : Type 0} (meaning : Ghosts S N K) (problem : S) (keying :
   child_level path node = record { parent = path; given = 0; remaining = meaning.children problem node }
 
   -- a node is next: the entries so far, and what either judgement leaves of the levels
-  pub record AwaitsNode (first now : Scene S N K Sum Q) (stack : List (LevelValue K)) (path : List ℕ) (node : N) : Type 0 where
+  pub record AwaitsNode (did : List OutletCall → Type 0) (first now : Scene S N K Sum Q) (stack : List (LevelValue K)) (path : List ℕ) (node : N) : Type 0 where
     pub notes : List Note
     pub frames : List Frame
     pub answers : List Bool
@@ -163,8 +165,9 @@ module _ {S N K Sum Q : Type 0} (meaning : Ghosts S N K) (problem : S) (keying :
     pub tasks_are : SameBag (paths_of tasks) (sent_paths notes)
     pub sound : AllByRecursion (λ task'. IsTask meaning problem task'.path.numbers task'.node) tasks
     pub answers_are : now.answers ≡ option_map (λ given. given ++ answers) first.answers
+    pub calls_are : did (outlet_calls policy (policy.start first.state) notes answers)
 
-  pub awaits-gives : Falls → (first now : Scene S N K Sum Q) (old new : List (LevelValue K)) (given : Task S N K) → Walking first now old → TopGives (levels (meaning.remaining problem) old) given.path.numbers given.node (levels (meaning.remaining problem) new) → AwaitsNode first now new given.path.numbers given.node
+  pub awaits-gives : {did : List OutletCall → Type 0} → Falls → (first now : Scene S N K Sum Q) (old new : List (LevelValue K)) (given : Task S N K) → Walking did first now old → TopGives (levels (meaning.remaining problem) old) given.path.numbers given.node (levels (meaning.remaining problem) new) → AwaitsNode did first now new given.path.numbers given.node
   awaits-gives ranked first now old new given w turn =
       let both = underway-gives meaning problem keying task ranked first.seat now.seat w.notes w.frames old new given w.way turn in
       record {
@@ -189,10 +192,11 @@ module _ {S N K Sum Q : Type 0} (meaning : Ghosts S N K) (problem : S) (keying :
         tasks_are = w.tasks_are;
         sound = w.sound;
         answers_are = w.answers_are;
+        calls_are = w.calls_are;
       }
 
   -- the node was visited
-  enters-visit : Falls → (first now after : Scene S N K Sum Q) (stack new : List (LevelValue K)) (path : List ℕ) (node : N) → IsTask meaning problem path node → AwaitsNode first now stack path node → EntersVisit meaning problem keying path node join of now.seat now.hand now.log stack after.seat after.hand after.log new → IsWithin after.log.told → after.state ≡ now.state → after.sent ≡ now.sent → after.answers ≡ now.answers → Happened first after new Visited (length path)
+  enters-visit : {did : List OutletCall → Type 0} → Falls → (first now after : Scene S N K Sum Q) (stack new : List (LevelValue K)) (path : List ℕ) (node : N) → IsTask meaning problem path node → AwaitsNode did first now stack path node → EntersVisit meaning problem keying path node join of now.seat now.hand now.log stack after.seat after.hand after.log new → IsWithin after.log.told → after.state ≡ now.state → after.sent ≡ now.sent → after.answers ≡ now.answers → Happened did first after new Visited (length path)
   enters-visit ranked first now after stack new path node is a e within same_state same_sent same_answers =
       let note : Note = visited path e.worth e.held in
       let level : LevelValue K = record { parent = path; given = 0; kids = e.opens.kids } in
@@ -225,10 +229,11 @@ module _ {S N K Sum Q : Type 0} (meaning : Ghosts S N K) (problem : S) (keying :
         tasks_are = a.tasks_are;
         sound = a.sound;
         answers_are = same_answers ∙ a.answers_are;
+        calls_are = a.calls_are;
       }
 
   -- the node was cut
-  enters-cut : (first now after : Scene S N K Sum Q) (stack new : List (LevelValue K)) (path : List ℕ) (node : N) → IsTask meaning problem path node → AwaitsNode first now stack path node → EntersCut meaning problem keying path node join of now.seat now.hand now.log stack after.seat after.hand after.log new → IsWithin after.log.told → after.state ≡ now.state → after.sent ≡ now.sent → after.answers ≡ now.answers → Happened first after new CutOff (length path)
+  enters-cut : {did : List OutletCall → Type 0} → (first now after : Scene S N K Sum Q) (stack new : List (LevelValue K)) (path : List ℕ) (node : N) → IsTask meaning problem path node → AwaitsNode did first now stack path node → EntersCut meaning problem keying path node join of now.seat now.hand now.log stack after.seat after.hand after.log new → IsWithin after.log.told → after.state ≡ now.state → after.sent ≡ now.sent → after.answers ≡ now.answers → Happened did first after new CutOff (length path)
   enters-cut first now after stack new path node is a e within same_state same_sent same_answers =
       let note : Note = cut path e.bound e.held in
       let c = underway-cut meaning problem keying task first.seat now.seat after.seat a.notes a.frames (levels (meaning.remaining problem) stack) path node e.bound e.held is a.way a.next e.is_cut in
@@ -255,15 +260,16 @@ module _ {S N K Sum Q : Type 0} (meaning : Ghosts S N K) (problem : S) (keying :
         tasks_are = a.tasks_are;
         sound = a.sound;
         answers_are = same_answers ∙ a.answers_are;
+        calls_are = a.calls_are;
       }
 
-  pub awaits-enters : Falls → (event : Event) (first now after : Scene S N K Sum Q) (stack new : List (LevelValue K)) (path : List ℕ) (node : N) → IsTask meaning problem path node → AwaitsNode first now stack path node → Enters meaning problem keying path node join of event now.seat now.hand now.log stack after.seat after.hand after.log new → IsWithin after.log.told → after.state ≡ now.state → after.sent ≡ now.sent → after.answers ≡ now.answers → Happened first after new event (length path)
+  pub awaits-enters : {did : List OutletCall → Type 0} → Falls → (event : Event) (first now after : Scene S N K Sum Q) (stack new : List (LevelValue K)) (path : List ℕ) (node : N) → IsTask meaning problem path node → AwaitsNode did first now stack path node → Enters meaning problem keying path node join of event now.seat now.hand now.log stack after.seat after.hand after.log new → IsWithin after.log.told → after.state ≡ now.state → after.sent ≡ now.sent → after.answers ≡ now.answers → Happened did first after new event (length path)
   awaits-enters ranked Visited first now after stack new path node is a e within same_state same_sent same_answers = enters-visit ranked first now after stack new path node is a e within same_state same_sent same_answers
   awaits-enters ranked CutOff first now after stack new path node is a e within same_state same_sent same_answers = enters-cut first now after stack new path node is a e within same_state same_sent same_answers
   awaits-enters ranked Ended first now after stack new path node is a e within same_state same_sent same_answers = absurd e
 
   -- the highest level ended
-  pub walking-ends : (first now after : Scene S N K Sum Q) (old new : List (LevelValue K)) (path : List ℕ) → Walking first now old → TopEnds (levels (meaning.remaining problem) old) path (levels (meaning.remaining problem) new) → after.log ≡ log_after now.log (ended path ∷ []) → IsWithin after.log.told → after.seat ≡ now.seat → after.hand ≡ now.hand → after.state ≡ now.state → after.sent ≡ now.sent → after.answers ≡ now.answers → Happened first after new Ended (length path)
+  pub walking-ends : {did : List OutletCall → Type 0} → (first now after : Scene S N K Sum Q) (old new : List (LevelValue K)) (path : List ℕ) → Walking did first now old → TopEnds (levels (meaning.remaining problem) old) path (levels (meaning.remaining problem) new) → after.log ≡ log_after now.log (ended path ∷ []) → IsWithin after.log.told → after.seat ≡ now.seat → after.hand ≡ now.hand → after.state ≡ now.state → after.sent ≡ now.sent → after.answers ≡ now.answers → Happened did first after new Ended (length path)
   walking-ends first now after old new path w turn logged within same_seat same_hand same_state same_sent same_answers =
       let note : Note = ended path in
       let c = underway-ends meaning problem keying task first.seat now.seat w.notes w.frames old new path w.way turn in
@@ -290,11 +296,19 @@ module _ {S N K Sum Q : Type 0} (meaning : Ghosts S N K) (problem : S) (keying :
         tasks_are = w.tasks_are;
         sound = w.sound;
         answers_are = same_answers ∙ w.answers_are;
+        calls_are = w.calls_are;
       }
 
+  -- the calls along the entries, with those at one more event
+  event-calls : {did : List OutletCall → Type 0} {event : Event} {depth : ℕ} {stack : List (LevelValue K)} → (first now : Scene S N K Sum Q) (h : Happened did first now stack event depth) (wanted : Bool) (group : List Note) (calls : List OutletCall) → calls_at policy now.state (input_of event depth wanted) (sent_paths (group_of group)) ≡ calls → outlet_calls policy (policy.start first.state) (h.notes ++ h.note ∷ group) (h.answers ++ wanted ∷ []) ≡ outlet_calls policy (policy.start first.state) h.notes h.answers ++ calls
+  event-calls {did} {event} {depth} {stack} first now h wanted group calls are =
+      outlet_calls-event policy (policy.start first.state) h.notes h.answers h.note wanted (input_of event depth wanted) group (h.is_event wanted) h.has_policy.one_each
+      ∙ ap (λ q. outlet_calls policy (policy.start first.state) h.notes h.answers ++ calls_at policy q (input_of event depth wanted) (sent_paths (group_of group))) h.state_is
+      ∙ ap (λ cs. outlet_calls policy (policy.start first.state) h.notes h.answers ++ cs) are
+
   -- the policy asked for nothing
-  asked-on : (wanted : Bool) (event : Event) (depth : ℕ) (first now after : Scene S N K Sum Q) (stack : List (LevelValue K)) → Happened first now stack event depth → policy.act now.state (input_of event depth wanted) ≡ on → after.state ≡ policy.after now.state (input_of event depth wanted) → after.seat ≡ now.seat → after.hand ≡ now.hand → after.log ≡ now.log → after.sent ≡ now.sent → after.answers ≡ option_map (λ given. given ++ wanted ∷ []) now.answers → Walking first after stack
-  asked-on wanted event depth first now after stack h act state same_seat same_hand same_log same_sent told =
+  asked-on : {did goes : List OutletCall → Type 0} → (wanted : Bool) (event : Event) (depth : ℕ) (first now after : Scene S N K Sum Q) (stack : List (LevelValue K)) → Happened did first now stack event depth → ((xs : List OutletCall) → did xs → goes (xs ++ was_asked wanted ∷ [])) → policy.act now.state (input_of event depth wanted) ≡ on → after.state ≡ policy.after now.state (input_of event depth wanted) → after.seat ≡ now.seat → after.hand ≡ now.hand → after.log ≡ now.log → after.sent ≡ now.sent → after.answers ≡ option_map (λ given. given ++ wanted ∷ []) now.answers → Walking goes first after stack
+  asked-on {did} {goes} wanted event depth first now after stack h follows act state same_seat same_hand same_log same_sent told =
       let notes = h.notes ++ h.note ∷ [] in
       let gone_on = goes_on-on t policy first.state h.notes h.answers h.note wanted (input_of event depth wanted) now.state (levels (meaning.remaining problem) stack) (h.is_event wanted) h.has_policy h.state_is act h.dealt in
       record {
@@ -316,12 +330,13 @@ module _ {S N K Sum Q : Type 0} (meaning : Ghosts S N K) (problem : S) (keying :
         tasks_are = subst (SameBag (paths_of h.tasks)) (sym h.unsent) h.tasks_are;
         sound = h.sound;
         answers_are = given-push first.answers now.answers after.answers h.answers wanted h.answers_are told;
+        calls_are = subst goes (sym (event-calls first now h wanted [] (was_asked wanted ∷ []) (ap (λ a. was_asked wanted ∷ list_for a []) act))) (follows (outlet_calls policy (policy.start first.state) h.notes h.answers) h.calls_are);
       }
 
   -- a chunk was shared out
   module _ (made : List ℕ → Note) (what : What) (sends : Sends meaning problem keying task made what) where
-    asked-shared : (wanted : Bool) (event : Event) (depth : ℕ) (chunk : Chunk) (first now after : Scene S N K Sum Q) (old new : List (LevelValue K)) (h : Happened first now old event depth) (s : IsShared meaning problem chunk what old now.log now.sent new after.log after.sent) → HasGoneOn t policy first.state (h.notes ++ h.note ∷ map made (paths_of s.tasks)) (h.answers ++ wanted ∷ []) (levels (meaning.remaining problem) new) after.state → (Alone first → ⊥) → after.seat ≡ now.seat → after.hand ≡ now.hand → after.answers ≡ option_map (λ given. given ++ wanted ∷ []) now.answers → Walking first after new
-    asked-shared wanted event depth chunk first now after old new h s gone_on not_alone same_seat same_hand told =
+    asked-shared : {did goes : List OutletCall → Type 0} → (wanted : Bool) (event : Event) (depth : ℕ) (chunk : Chunk) (first now after : Scene S N K Sum Q) (old new : List (LevelValue K)) (h : Happened did first now old event depth) (shares : List OutletCall → Type 0) (s : IsShared meaning problem chunk what shares old now.log now.sent new after.log after.sent) → ((paths : List (List ℕ)) → list_for (policy.act now.state (input_of event depth wanted)) paths ≡ was_given paths ∷ []) → ((xs : List OutletCall) (paths : List (List ℕ)) → did xs → shares (was_given paths ∷ []) → goes (xs ++ was_asked wanted ∷ was_given paths ∷ [])) → HasGoneOn t policy first.state (h.notes ++ h.note ∷ map made (paths_of s.tasks)) (h.answers ++ wanted ∷ []) (levels (meaning.remaining problem) new) after.state → (Alone first → ⊥) → after.seat ≡ now.seat → after.hand ≡ now.hand → after.answers ≡ option_map (λ given. given ++ wanted ∷ []) now.answers → Walking goes first after new
+    asked-shared {did} {goes} wanted event depth chunk first now after old new h shares s asks follows gone_on not_alone same_seat same_hand told =
         let group = map made (paths_of s.tasks) in
         let joined : (h.notes ++ h.note ∷ []) ++ group ≡ h.notes ++ h.note ∷ group = append_assoc h.notes (h.note ∷ []) group in
         let notes = h.notes ++ h.note ∷ group in
@@ -356,25 +371,28 @@ module _ {S N K Sum Q : Type 0} (meaning : Ghosts S N K) (problem : S) (keying :
               (same-is (ap (λ ps. ps ++ sent_paths group) (sym h.unsent) ∙ sym (flat_map-append sent_in (h.notes ++ h.note ∷ []) group) ∙ ap sent_paths joined)));
           sound = AllByRecursion-append (λ (task' : Task S N K). IsTask meaning problem task'.path.numbers task'.node) h.tasks s.tasks h.sound s.is_off.tasks_are;
           answers_are = given-push first.answers now.answers after.answers h.answers wanted h.answers_are told;
+          calls_are = subst goes (sym (event-calls first now h wanted group (was_asked wanted ∷ was_given (paths_of s.tasks) ∷ [])
+              (ap (λ ps. was_asked wanted ∷ list_for (policy.act now.state (input_of event depth wanted)) ps) (ap sent_paths (sends.is_group (paths_of s.tasks)) ∙ sent_are) ∙ ap (λ cs. was_asked wanted ∷ cs) (asks (paths_of s.tasks)))))
+              (follows (outlet_calls policy (policy.start first.state) h.notes h.answers) (paths_of s.tasks) h.calls_are s.given_is);
         }
 
   -- what the policy asked for was done
-  pub event-asked : (wanted : Bool) (event : Event) (depth : ℕ) (first now after : Scene S N K Sum Q) (old new : List (LevelValue K)) → Happened first now old event depth → IsAsked meaning problem policy (input_of event depth wanted) now.state old now.log now.sent after.state new after.log after.sent → after.seat ≡ now.seat → after.hand ≡ now.hand → after.answers ≡ option_map (λ given. given ++ wanted ∷ []) now.answers → Walking first after new
-  event-asked wanted event depth first now after old new h a same_seat same_hand told = by a.act_done
+  pub event-asked : {did more goes : List OutletCall → Type 0} → (wanted : Bool) (event : Event) (depth : ℕ) (first now after : Scene S N K Sum Q) (old new : List (LevelValue K)) → Happened did first now old event depth → IsAsked meaning problem policy (input_of event depth wanted) more now.state old now.log now.sent after.state new after.log after.sent → ((xs ys : List OutletCall) → did xs → more ys → goes (xs ++ ys)) → after.seat ≡ now.seat → after.hand ≡ now.hand → after.answers ≡ option_map (λ given. given ++ wanted ∷ []) now.answers → Walking goes first after new
+  event-asked {did} {more} {goes} wanted event depth first now after old new h a follows same_seat same_hand told = by a.act_done
     where
-      by : ((policy.act now.state (input_of event depth wanted) ≡ on) × (new ≡ old) × (after.log ≡ now.log) × (after.sent ≡ now.sent))
-          ⊎ (((chunk : Chunk) × (policy.act now.state (input_of event depth wanted) ≡ spawn (part_of_chunk chunk)) × IsShared meaning problem chunk Spawned old now.log now.sent new after.log after.sent)
-          ⊎ ((chunk : Chunk) × (policy.act now.state (input_of event depth wanted) ≡ hand (part_of_chunk chunk)) × IsShared meaning problem chunk Handed old now.log now.sent new after.log after.sent))
-          → Walking first after new
-      by (inl n) = subst (Walking first after) (sym n.1) (asked-on wanted event depth first now after old h n.0 a.state_is same_seat same_hand n.2 n.3 told)
+      by : ((policy.act now.state (input_of event depth wanted) ≡ on) × (new ≡ old) × (after.log ≡ now.log) × (after.sent ≡ now.sent) × more (was_asked wanted ∷ []))
+          ⊎ (((chunk : Chunk) × (policy.act now.state (input_of event depth wanted) ≡ spawn (part_of_chunk chunk)) × IsShared meaning problem chunk Spawned (λ calls. more (was_asked wanted ∷ calls)) old now.log now.sent new after.log after.sent)
+          ⊎ ((chunk : Chunk) × (policy.act now.state (input_of event depth wanted) ≡ hand (part_of_chunk chunk)) × IsShared meaning problem chunk Handed (λ calls. more (was_asked wanted ∷ calls)) old now.log now.sent new after.log after.sent))
+          → Walking goes first after new
+      by (inl n) = subst (Walking goes first after) (sym n.1) (asked-on wanted event depth first now after old h (λ xs d. follows xs (was_asked wanted ∷ []) d n.4) n.0 a.state_is same_seat same_hand n.2 n.3 told)
       by (inr (inl s)) =
-          asked-shared spawned Spawned (spawned-sends meaning problem keying task) wanted event depth s.0 first now after old new h s.2
+          asked-shared spawned Spawned (spawned-sends meaning problem keying task) wanted event depth s.0 first now after old new h (λ calls. more (was_asked wanted ∷ calls)) s.2 (λ paths. ap (λ act. list_for act paths) s.1) (λ xs paths d m. follows xs (was_asked wanted ∷ was_given paths ∷ []) d m)
           (subst (HasGoneOn t policy first.state (h.notes ++ h.note ∷ map spawned (paths_of s.2.tasks)) (h.answers ++ wanted ∷ []) (levels (meaning.remaining problem) new)) (sym a.state_is)
           (goes_on-spawn t policy first.state s.0 h.notes h.answers h.note wanted (input_of event depth wanted) now.state (levels (meaning.remaining problem) old) (levels (meaning.remaining problem) new) [] s.2.tasks (h.is_event wanted) h.has_policy h.state_is s.1 h.dealt s.2.splits))
           (λ alone. not-spawn (part_of_chunk s.0) (sym (alone.never_asks now.state (input_of event depth wanted)) ∙ s.1))
           same_seat same_hand told
       by (inr (inr s)) =
-          asked-shared handed Handed (handed-sends meaning problem keying task) wanted event depth s.0 first now after old new h s.2
+          asked-shared handed Handed (handed-sends meaning problem keying task) wanted event depth s.0 first now after old new h (λ calls. more (was_asked wanted ∷ calls)) s.2 (λ paths. ap (λ act. list_for act paths) s.1) (λ xs paths d m. follows xs (was_asked wanted ∷ was_given paths ∷ []) d m)
           (subst (HasGoneOn t policy first.state (h.notes ++ h.note ∷ map handed (paths_of s.2.tasks)) (h.answers ++ wanted ∷ []) (levels (meaning.remaining problem) new)) (sym a.state_is)
           (goes_on-hand t policy first.state s.0 h.notes h.answers h.note wanted (input_of event depth wanted) now.state (levels (meaning.remaining problem) old) (levels (meaning.remaining problem) new) [] s.2.tasks (h.is_event wanted) h.has_policy h.state_is s.1 h.dealt s.2.splits))
           (λ alone. not-hand (part_of_chunk s.0) (sym (alone.never_asks now.state (input_of event depth wanted)) ∙ s.1))

@@ -18,3 +18,4 @@ pub mod SmallTree
 pub mod Star
 pub mod UnderWay
 pub mod Verdicts
+pub mod WorkerLogs

@@ -30,6 +30,7 @@ use Rattle.yew_walk.specs.Dealt.{IsDealt}
 use Rattle.yew_walk.specs.Hands.{incumbent_of, best_after, AreVisited}
 use Rattle.yew_walk.specs.Keys.{kind_of}
 use Rattle.yew_walk.specs.LogViews.{LogView, log_after, IsWithin}
+use Rattle.yew_walk.specs.Outlets.{OutletCall, outlet_calls}
 use Rattle.yew_walk.specs.PolicyStates.{policy_state, HasGoneOn}
 use Rattle.yew_walk.specs.Seats.{SeatGoes}
 use Rattle.yew_walk.specs.SeqRests.{IsInSequence}
@@ -69,8 +70,8 @@ module _ {S N K Sum Q : Type 0} (meaning : Ghosts S N K) (problem : S) (keying :
     pub none_offered : first.seat.offered ≡ []
     pub whole_share : first.seat.share ≡ first.seat.best.seats
 
-  -- the walk is under way, and waits for its next turn
-  pub record IsWalking (first now : Scene S N K Sum Q) (stack : List (LevelValue K)) : Type 0 where
+  -- the walk is under way, and waits for its next turn; the calls that were made of the outlet are those along its entries
+  pub record IsWalking (made : List OutletCall → Type 0) (first now : Scene S N K Sum Q) (stack : List (LevelValue K)) : Type 0 where
     pub notes : List Note
     pub frames : List Frame
     pub answers : List Bool
@@ -89,9 +90,10 @@ module _ {S N K Sum Q : Type 0} (meaning : Ghosts S N K) (problem : S) (keying :
     pub tasks_are : SameBag (paths_of tasks) (sent_paths notes)
     pub sound : AllByRecursion (λ task'. IsTask meaning problem task'.path.numbers task'.node) tasks
     pub answers_are : now.answers ≡ option_map (λ given. given ++ answers) first.answers
+    pub calls_are : made (outlet_calls policy (policy.start first.state) notes answers)
 
   -- an event was recorded at a depth, of which the policy was not told yet
-  pub record HasEvent (first now : Scene S N K Sum Q) (stack : List (LevelValue K)) (event : Event) (depth : ℕ) : Type 0 where
+  pub record HasEvent (made : List OutletCall → Type 0) (first now : Scene S N K Sum Q) (stack : List (LevelValue K)) (event : Event) (depth : ℕ) : Type 0 where
     pub notes : List Note
     pub note : Note
     pub frames : List Frame
@@ -114,6 +116,7 @@ module _ {S N K Sum Q : Type 0} (meaning : Ghosts S N K) (problem : S) (keying :
     pub tasks_are : SameBag (paths_of tasks) (sent_paths notes)
     pub sound : AllByRecursion (λ task'. IsTask meaning problem task'.path.numbers task'.node) tasks
     pub answers_are : now.answers ≡ option_map (λ given. given ++ answers) first.answers
+    pub calls_are : made (outlet_calls policy (policy.start first.state) notes answers)
 
   -- the walk was refused: its entries, with the one that was not recorded, if there is one, are one segment that was broken off
   pub record IsRefused (first now : Scene S N K Sum Q) (fault : SearchFault) : Type 0 where
@@ -125,15 +128,16 @@ module _ {S N K Sum Q : Type 0} (meaning : Ghosts S N K) (problem : S) (keying :
     pub keeps : IsBrokenWalk (search_tree meaning problem) 0 (kind_of keying) task notes
     pub keeps_ahead : IsBrokenWalk (search_tree meaning problem) 0 (kind_of keying) task (notes ++ ahead)
     pub part : PartOfBag (covered_paths (search_tree meaning problem) (notes ++ ahead)) (below (search_tree meaning problem) task)
-    pub goes : SeatGoes keying first.seat (notes ++ ahead) now.seat
+    pub goes : SeatGoes (search_tree meaning problem) keying first.seat (notes ++ ahead) now.seat
     pub sent_are : SameBag now.sent (first.sent ++ tasks)
     pub noted : PartOfBag (paths_of tasks) (sent_paths notes)
     pub sound : AllByRecursion (λ task'. IsTask meaning problem task'.path.numbers task'.node) tasks
     pub cause : IsCause fault now.log ahead
     pub of_sequence : IsAlone first → (rest : List Note) × (seq_log (search_tree meaning problem) 0 ≡ (notes ++ ahead) ++ rest)
 
-  -- the walk came to its end: its entries are one segment, which has the policy's groups
-  pub record IsWalked (none : Sum) (first now : Scene S N K Sum Q) : Type 0 where
+  -- the walk came to its end: its entries are one segment, which has the policy's groups, and the calls that were made of
+  -- the outlet are those along its entries
+  pub record IsWalked (none : Sum) (made : List OutletCall → Type 0) (first now : Scene S N K Sum Q) : Type 0 where
     pub notes : List Note
     pub answers : List Bool
     pub tasks : List (Task S N K)
@@ -141,7 +145,7 @@ module _ {S N K Sum Q : Type 0} (meaning : Ghosts S N K) (problem : S) (keying :
     pub walk : IsWalk (search_tree meaning problem) 0 (kind_of keying) (PolicyGroup (search_tree meaning problem) policy first.state answers) task notes
     pub one_each : length answers ≡ length (event_paths notes)
     pub state_is : now.state ≡ policy_state policy first.state notes answers
-    pub goes : SeatGoes keying first.seat notes now.seat
+    pub goes : SeatGoes (search_tree meaning problem) keying first.seat notes now.seat
     pub log_is : now.log ≡ log_after first.log notes
     pub within : IsWithin now.log.told
     pub are_visited : AreVisited (search_tree meaning problem) notes members
@@ -151,3 +155,4 @@ module _ {S N K Sum Q : Type 0} (meaning : Ghosts S N K) (problem : S) (keying :
     pub tasks_are : SameBag (paths_of tasks) (sent_paths notes)
     pub sound : AllByRecursion (λ task'. IsTask meaning problem task'.path.numbers task'.node) tasks
     pub answers_are : now.answers ≡ option_map (λ given. given ++ answers) first.answers
+    pub calls_are : made (outlet_calls policy (policy.start first.state) notes answers)

@@ -1,6 +1,7 @@
 -- How the seat of a worker at the incumbent word goes on: what it reads and offers along the entries of its log.
-use Rattle.std.specs.Prelude.{◌≡◌, ℕ, ◌≤◌, ◌⊎◌, List, [], ◌∷◌, ◌++◌, All, Contains}
+use Rattle.std.specs.Prelude.{◌≡◌, ◌≢◌, ℕ, ◌<◌, ◌≤◌, ◌⊎◌, List, [], ◌∷◌, ◌++◌, All, Contains, IfSome}
 use Rattle.yew_best.specs.Seats.{SeatView}
+use Rattle.yew_laws.specs.SearchTree.{SearchTree, bound_at}
 use Rattle.yew_log.specs.Notes.{Note, taken, visited, cut, spawned, handed, ended}
 use Rattle.yew_walk.specs.declared.keying.Keying.{Keying}
 use Rattle.yew_walk.specs.Keys.{key_of, held_of}
@@ -20,15 +21,28 @@ pub record IsRead (seat : SeatView) (word : ℕ) : Type 0 where
   pub at_least_offered : All (λ x. x ≤ word) seat.offered
   pub whole : seat.share ≡ seat.best.seats → (word ≡ 0) ⊎ Contains seat.offered word
 
--- a seat along entries: before each visit and each cut one word is read, which holds the entry's held value, and each
--- visit offers the key of its worth; nothing else is read or offered
-abbrev pub SeatGoes : Keying → SeatView → List Note → SeatView → Type 0
-SeatGoes keying old [] new = new ≡ old
-SeatGoes keying old (visited path worth held ∷ notes) new =
-    (word : ℕ) × IsRead old word × (held ≡ held_of keying word) × SeatGoes keying (has_offered (has_read old word) (key_of keying worth)) notes new
-SeatGoes keying old (cut path bound held ∷ notes) new =
-    (word : ℕ) × IsRead old word × (held ≡ held_of keying word) × SeatGoes keying (has_read old word) notes new
-SeatGoes keying old (taken path ∷ notes) new = SeatGoes keying old notes new
-SeatGoes keying old (spawned path ∷ notes) new = SeatGoes keying old notes new
-SeatGoes keying old (handed path ∷ notes) new = SeatGoes keying old notes new
-SeatGoes keying old (ended path ∷ notes) new = SeatGoes keying old notes new
+module _ {N : Type 0} (t : SearchTree N) (keying : Keying) where
+  -- the word that is read before a visit: it has the held value, and but for the root it is below the key of the node's bound
+  pub record IsVisitWord (seat : SeatView) (path : List ℕ) (held word : ℕ) : Type 0 where
+    pub is_read : IsRead seat word
+    pub held_is : held ≡ held_of keying word
+    pub due : path ≢ [] → IfSome (bound_at t path) (λ bound. word < key_of keying bound)
+
+  -- the word that is read before a cut: it has the held value, and is at least the key of the bound
+  pub record IsCutWord (seat : SeatView) (bound held word : ℕ) : Type 0 where
+    pub is_read : IsRead seat word
+    pub held_is : held ≡ held_of keying word
+    pub permitted : key_of keying bound ≤ word
+
+  -- a seat along entries: before each visit and each cut one word is read, by which it was decided, and each visit
+  -- offers the key of its worth; nothing else is read or offered
+  abbrev pub SeatGoes : SeatView → List Note → SeatView → Type 0
+  SeatGoes old [] new = new ≡ old
+  SeatGoes old (visited path worth held ∷ notes) new =
+      (word : ℕ) × IsVisitWord old path held word × SeatGoes (has_offered (has_read old word) (key_of keying worth)) notes new
+  SeatGoes old (cut path bound held ∷ notes) new =
+      (word : ℕ) × IsCutWord old bound held word × SeatGoes (has_read old word) notes new
+  SeatGoes old (taken path ∷ notes) new = SeatGoes old notes new
+  SeatGoes old (spawned path ∷ notes) new = SeatGoes old notes new
+  SeatGoes old (handed path ∷ notes) new = SeatGoes old notes new
+  SeatGoes old (ended path ∷ notes) new = SeatGoes old notes new

@@ -16,7 +16,7 @@ use Rattle.yew_walk.specs.declared.fault.SearchFault.{SearchFault}
 use Rattle.yew_walk.specs.declared.fault.SearchFault.TheVariants.{Memory, AuditFull, TooManyTasks}
 use Rattle.yew_walk.specs.Dealt.{part_of_chunk}
 use Rattle.yew_walk.specs.LogViews.{LogView, all_noted, IsWithin, RefusesNote}
-use Rattle.yew_walk.specs.Outlets.{IsSentPart}
+use Rattle.yew_walk.specs.Outlets.{OutletCall, was_asked, was_given, IsSentPart}
 
 -- why the entries for these paths are not all there: memory ran out, or the log has no room for the first one
 abbrev pub RefusesNotes : LogView → List (List ℕ) → SearchFault → Type 0
@@ -41,14 +41,15 @@ module _ {S N K : Type 0} (meaning : Ghosts S N K) (problem : S) where
     pub levels_open : AllOpen meaning problem new
     pub tasks_are : AllByRecursion (λ task. IsTask meaning problem task.path.numbers task.node) tasks
 
-  -- a chunk of the lowest level was split off, recorded and sent
-  pub record IsShared (chunk : Chunk) (what : What) (old_stack : List (LevelValue K)) (old_log : LogView) (old_sent : List (Task S N K)) (new_stack : List (LevelValue K)) (new_log : LogView) (new_sent : List (Task S N K)) : Type 0 where
+  -- a chunk of the lowest level was split off, recorded and sent, which is the one call that was made of the outlet
+  pub record IsShared (chunk : Chunk) (what : What) (made : List OutletCall → Type 0) (old_stack : List (LevelValue K)) (old_log : LogView) (old_sent : List (Task S N K)) (new_stack : List (LevelValue K)) (new_log : LogView) (new_sent : List (Task S N K)) : Type 0 where
     pub tasks : List (Task S N K)
     pub is_off : IsSplitOff old_stack tasks new_stack
     pub splits : Splits chunk (levels (meaning.remaining problem) old_stack) [] tasks (levels (meaning.remaining problem) new_stack)
     pub log_is : new_log ≡ all_noted old_log what (paths_of tasks)
     pub within : IsWithin old_log.told → IsWithin new_log.told
     pub sent_are : SameBag new_sent (old_sent ++ tasks)
+    pub given_is : made (was_given (paths_of tasks) ∷ [])
 
   -- the sharing was refused: some tasks were split off, the first of them were recorded, and where all were, a part was sent
   pub record StopsSharing (what : What) (fault : SearchFault) (old_stack : List (LevelValue K)) (old_log : LogView) (old_sent : List (Task S N K)) (new_stack : List (LevelValue K)) (new_log : LogView) (new_sent : List (Task S N K)) : Type 0 where
@@ -58,13 +59,13 @@ module _ {S N K : Type 0} (meaning : Ghosts S N K) (problem : S) where
     pub sent_are : (new_sent ≡ old_sent) ⊎ ((noting.rest ≡ []) × IsSentPart (λ (task : Task S N K). IsTask meaning problem task.path.numbers task.node) old_sent tasks new_sent)
 
   module _ {Q : Type 0} (policy : PolicyMeaning Q) (input : PolicyInput) where
-    -- what a policy asked for was done
-    pub record IsAsked (old_state : Q) (old_stack : List (LevelValue K)) (old_log : LogView) (old_sent : List (Task S N K)) (new_state : Q) (new_stack : List (LevelValue K)) (new_log : LogView) (new_sent : List (Task S N K)) : Type 0 where
+    -- the outlet was asked, and what the policy asked for was done
+    pub record IsAsked (made : List OutletCall → Type 0) (old_state : Q) (old_stack : List (LevelValue K)) (old_log : LogView) (old_sent : List (Task S N K)) (new_state : Q) (new_stack : List (LevelValue K)) (new_log : LogView) (new_sent : List (Task S N K)) : Type 0 where
       pub state_is : new_state ≡ policy.after old_state input
       pub act_done :
-          ((policy.act old_state input ≡ on) × (new_stack ≡ old_stack) × (new_log ≡ old_log) × (new_sent ≡ old_sent))
-          ⊎ (((chunk : Chunk) × (policy.act old_state input ≡ spawn (part_of_chunk chunk)) × IsShared chunk Spawned old_stack old_log old_sent new_stack new_log new_sent)
-          ⊎ ((chunk : Chunk) × (policy.act old_state input ≡ hand (part_of_chunk chunk)) × IsShared chunk Handed old_stack old_log old_sent new_stack new_log new_sent))
+          ((policy.act old_state input ≡ on) × (new_stack ≡ old_stack) × (new_log ≡ old_log) × (new_sent ≡ old_sent) × made (was_asked input.wanted ∷ []))
+          ⊎ (((chunk : Chunk) × (policy.act old_state input ≡ spawn (part_of_chunk chunk)) × IsShared chunk Spawned (λ calls. made (was_asked input.wanted ∷ calls)) old_stack old_log old_sent new_stack new_log new_sent)
+          ⊎ ((chunk : Chunk) × (policy.act old_state input ≡ hand (part_of_chunk chunk)) × IsShared chunk Handed (λ calls. made (was_asked input.wanted ∷ calls)) old_stack old_log old_sent new_stack new_log new_sent))
 
     -- what a policy asked for was refused
     pub record StopsAsking (fault : SearchFault) (old_state : Q) (old_stack : List (LevelValue K)) (old_log : LogView) (old_sent : List (Task S N K)) (new_stack : List (LevelValue K)) (new_log : LogView) (new_sent : List (Task S N K)) : Type 0 where

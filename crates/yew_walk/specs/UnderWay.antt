@@ -1,13 +1,13 @@
 -- A walk under way: what its entries so far, its levels and its seat have to do with each other.
-use Rattle.std.specs.Prelude.{◌≡◌, ℕ, ◌<◌, ◌≤◌, ◌⊎◌, List, [], ◌∷◌, ◌++◌}
+use Rattle.std.specs.Prelude.{◌≡◌, ℕ, ◌<◌, ◌≤◌, ◌⊎◌, List, [], ◌∷◌, ◌++◌, IsSome}
 use mathlib.Core.List.{reverse}
 use Rattle.std.specs.List.{AllByRecursion, Contains, flat_map}
 use Rattle.yew_best.specs.Seats.{SeatView}
 use Rattle.yew_laws.specs.declared.problem.Problem.{Ghosts}
 use Rattle.yew_laws.specs.Bag.{SameBag}
-use Rattle.yew_laws.specs.SearchTree.{search_tree, below}
+use Rattle.yew_laws.specs.SearchTree.{search_tree, at_path, below}
 use Rattle.yew_laws.specs.Tree.{paths}
-use Rattle.yew_log.specs.Notes.{Note, taken, taken_paths}
+use Rattle.yew_log.specs.Notes.{Note, taken, taken_paths, sent_paths}
 use Rattle.yew_log.specs.HeldValues.{HeldRises, IsJudged}
 use Rattle.yew_log.specs.Segment.{Begins, IsValued, covered_paths}
 use Rattle.yew_log.proofs.Blocks.{IsBlock}
@@ -52,12 +52,15 @@ pub record IsOfLevel {N : Type 0} (ls : List (LevelView N)) (path : List ℕ) : 
   pub is : path ≡ level.parent ++ number ∷ []
 
 -- the entries after the Taken entry of a task, the seat before them and after them, the levels, and the paths that
--- neither are to come nor have an entry yet
+-- neither are to come nor have an entry yet; what was sent, and these paths, are of the tree
 pub record IsUnderWay {S N K : Type 0} (meaning : Ghosts S N K) (problem : S) (keying : Keying) (task : List ℕ) (first now : SeatView) (notes : List Note) (frames : List Frame) (ls : List (LevelView N)) (between : List (List ℕ)) : Type 0 where
-  pub goes : SeatGoes keying first notes now
+  pub goes : SeatGoes (search_tree meaning problem) keying first notes now
   pub shape : HasShape task notes frames
   pub aligned : AreAligned frames (reverse ls)
   pub covered : SameBag (covered_paths (search_tree meaning problem) notes ++ (paths (levels_to_come (node_tree meaning problem) ls) ++ flat_map (below (search_tree meaning problem)) between)) (below (search_tree meaning problem) task)
+  pub task_there : IsSome (at_path (search_tree meaning problem) task)
+  pub sent_there : AllByRecursion (λ path. IsSome (at_path (search_tree meaning problem) path)) (sent_paths notes)
+  pub between_there : AllByRecursion (λ path. IsSome (at_path (search_tree meaning problem) path)) between
   pub valued : IsValued (search_tree meaning problem) notes
   pub rises : HeldRises (taken task ∷ notes)
   pub judged : IsJudged (search_tree meaning problem) 0 (kind_of keying) (taken task ∷ notes)

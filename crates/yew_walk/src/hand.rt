@@ -1,21 +1,45 @@
 //! What a worker has found so far.
 
-ghost use Rattle.std.specs.Prelude.{◌≡◌, ◌<◌, ◌≤◌, ◌^◌, length};
+ghost use Rattle.std.specs.Prelude.{◌≡◌, ◌<◌, ◌≤◌, ◌^◌, false, length, IfOk};
 ghost use Rattle.yew_laws.specs.Incumbent.{improved};
 ghost use Rattle.yew_walk.specs.Hands.{incumbent_of, numbers_of};
 ghost use Rattle.yew_walk.specs.Keys.{IsKeying, answer_key};
 
 use crate::keying::Keying;
-use yew_laws::Path;
+use std::alloc::Global;
+use yew_kinds::Tally;
+use yew_laws::{Memory, Path};
+
+// No path of a tree has more numbers.
+const LONGEST_PATH: u32 = 65_535;
 
 /// The sum of the nodes that were visited, and the greatest key of a visited node that is an answer, with the path of
-/// the first one that had it. Where nothing is held, no such node was visited, and key and path say nothing.
+/// the first one that had it. Where nothing is held, no such node was visited: the hand then has no key and no path,
+/// whatever its fields say, and every key counts as greater.
 #[derive(Drop)]
 pub struct Hand<S> {
     pub sum: S,
     pub key: u64,
     pub path: Path,
     pub holds: bool,
+}
+
+/// A hand with nothing in it, whose path has room for any path of a tree.
+///
+/// # Errors
+///
+/// `Memory` where memory ran out.
+pub fn empty_hand<N, T: Tally<N>>(alloc: Global, tally: &T) -> Result<Hand<T::Sum>, Memory>
+    ensures holds { IfOk result (λ hand. hand.holds ≡ false) }
+    ensures sum { IfOk result (λ hand. hand.sum ≡ T.none tally.now) }
+    ensures space { IfOk result (λ hand. 65535 ≤ hand.path.space) }
+{
+    Ok(Hand {
+        sum: tally.none(alloc)?,
+        key: 0,
+        path: Path::empty(alloc, LONGEST_PATH)?,
+        holds: false,
+    })
 }
 
 impl<S: Drop> Hand<S> {
@@ -41,15 +65,15 @@ impl<S: Drop> Hand<S> {
         self.holds = true;
     }
 
-    /// The key of the best node, and 0 if no visited node was an answer.
-    pub(crate) fn best_key(&self) -> u64
+    /// The key of the best node, and 0 if no visited node was an answer. With plain keys it is the worth of that node.
+    pub fn best_key(&self) -> u64
         ensures { result ≡ (incumbent_of self.now).worth }
     {
         if self.holds { self.key } else { 0 }
     }
 
     /// The path of the best node, if any visited node was an answer.
-    pub(crate) fn into_path(self) -> Option<Path>
+    pub fn into_path(self) -> Option<Path>
         ensures { numbers_of result ≡ (incumbent_of self).path }
     {
         let Hand {

@@ -20,9 +20,9 @@ pub enum Keying {
 }
 
 impl Keying {
-    /// The key of a worth, or of a bound.
+    /// The key of a worth, or of a bound, which is below 2^40.
     #[inline]
-    pub(crate) fn key(self, worth: u64) -> u64
+    pub fn key(self, worth: u64) -> u64
         requires keying { IsKeying self }
         requires worth { worth < 2 ^ 40 }
         ensures { result ≡ key_of self worth }
@@ -33,9 +33,9 @@ impl Keying {
         }
     }
 
-    /// The worth that a word holds.
+    /// The worth that a word holds: of a key the worth that it was made of.
     #[inline]
-    pub(crate) fn held(self, word: u64) -> u64
+    pub fn held(self, word: u64) -> u64
         ensures { result ≡ held_of self word }
     {
         match self {

@@ -9,12 +9,14 @@
 //! A walk that ends has dealt with each node of its task exactly once: it was visited, or lies at or below one that was
 //! cut off or sent. Its log, the words that were read and offered, the sum and the best visit fit together. A walk that is
 //! refused leaves a log that broke off, which deals with no node twice. [`search_plain`] is one walk from the root: its
-//! answer is right for the tree, and its log is the one sequential log.
+//! answer is right for the tree, and its log is the one sequential log. What holds of several walks of one worker together
+//! is said in [`laws`].
 #![tactic(auto)]
 
 mod fault;
 mod hand;
 mod keying;
+pub mod laws;
 mod outlet;
 mod policy;
 mod search;
@@ -25,10 +27,10 @@ mod verdict;
 mod walking;
 
 pub use fault::SearchFault;
-pub use hand::Hand;
+pub use hand::{Hand, empty_hand};
 pub use keying::Keying;
 pub use outlet::{Outbox, Outlet};
 pub use policy::{Act, Budget, Depth, Event, Hungry, Plain, Policy};
 pub use search::{Found, search_plain};
-pub use verdict::{Verdict, consider};
+pub use verdict::{Verdict, consider, judge};
 pub use walking::walk;

@@ -6,7 +6,8 @@ ghost use Rattle.std.specs.Option.{option_map};
 ghost use Rattle.yew_laws.specs.declared.problem.Task.{Task as TaskValue};
 ghost use Rattle.yew_laws.specs.Bag.{SameBag};
 ghost use Rattle.yew_laws.specs.SearchTree.{IsTask};
-ghost use Rattle.yew_walk.specs.Outlets.{IsSentPart};
+ghost use Rattle.yew_stack.specs.Splits.{paths_of};
+ghost use Rattle.yew_walk.specs.Outlets.{OutletCall, was_asked, was_given, IsSentPart};
 
 use std::alloc::Global;
 use yew_laws::{Memory, Problem, Task};
@@ -15,7 +16,8 @@ use yew_laws::{Memory, Problem, Task};
 ///
 /// Contracts see the problem of its tasks, the tasks that were sent, as a bag, and, where the outlet tells them, the
 /// answers of `wanted` so far, in order. Of two values of an outlet, `kept` says what every call keeps, and `later`
-/// what every call keeps that is not refused.
+/// what every call keeps that is not refused. `goes` says what calls that are not refused make of it, one after another:
+/// so an outlet can say of each list that it was given what it was asked before, also where the list is empty.
 pub trait Outlet<P: Problem> {
     /// The problem of the tasks.
     ghost problem: { Self → P };
@@ -32,6 +34,9 @@ pub trait Outlet<P: Problem> {
     /// What every call keeps that is not refused.
     ghost later: { Self → Self → Type 0 };
 
+    /// What calls make of the outlet, in order, of which none is refused.
+    ghost goes: { Self → List OutletCall → Self → Type 0 };
+
     /// A value keeps itself.
     ghost kept_same: { (a : Self) → kept a a };
 
@@ -44,13 +49,20 @@ pub trait Outlet<P: Problem> {
     /// What is later than a later one is later.
     ghost later_twice: { (a b c : Self) → later a b → later b c → later a c };
 
+    /// No call makes no change.
+    ghost goes_none: { (a : Self) → goes a [] a };
+
+    /// Calls follow on calls.
+    ghost goes_on: { (a b c : Self) (xs ys : List OutletCall) → goes a xs b → goes b ys c → goes a (xs ++ ys) c };
+
     /// Whether tasks are wanted.
     fn wanted(&mut self) -> bool
         ensures answers { answers self.new ≡ option_map (λ given. given ++ result ∷ []) (answers self.old) }
         ensures sent { sent self.new ≡ sent self.old }
         ensures problem { problem self.new ≡ problem self.old }
         ensures kept { kept self.old self.new }
-        ensures later { later self.old self.new };
+        ensures later { later self.old self.new }
+        ensures goes { goes self.old (was_asked result ∷ []) self.new };
 
     /// Sends tasks, of which there may be none. After `Memory` a part of them was sent.
     fn send(&mut self, tasks: Vec<Task<P>>) -> Result<(), Memory>
@@ -60,7 +72,8 @@ pub trait Outlet<P: Problem> {
         ensures answers { answers self.new ≡ answers self.old }
         ensures problem { problem self.new ≡ problem self.old }
         ensures kept { kept self.old self.new }
-        ensures later { OnOk result (later self.old self.new) };
+        ensures later { OnOk result (later self.old self.new) }
+        ensures goes { OnOk result (goes self.old (was_given (paths_of tasks.items) ∷ []) self.new) };
 }
 
 /// An outlet that keeps the tasks in a list, and never wants any.
@@ -86,7 +99,9 @@ impl<'a, P: Problem> Outbox<'a, P> {
 }
 
 impl<'a, P: Problem> Outlet<P> for Outbox<'a, P> {
-    ghost use Rattle.std.specs.Prelude.{None, refl};
+    ghost use Rattle.std.specs.Prelude.{None, refl, false};
+    ghost use Rattle.yew_laws.proofs.Members.{AllByRecursion-append};
+    ghost use Rattle.yew_walk.specs.Outlets.{IsUnwanted};
 
     ghost problem = { λ outbox. outbox.problem.now };
 
@@ -98,6 +113,8 @@ impl<'a, P: Problem> Outlet<P> for Outbox<'a, P> {
 
     ghost later = { λ _ _. Unit {0} };
 
+    ghost goes = { λ _ calls _. AllByRecursion IsUnwanted calls };
+
     ghost kept_same = { λ _. tt };
 
     ghost kept_twice = { λ _ _ _ _ _. tt };
@@ -106,7 +123,15 @@ impl<'a, P: Problem> Outlet<P> for Outbox<'a, P> {
 
     ghost later_twice = { λ _ _ _ _ _. tt };
 
-    fn wanted(&mut self) -> bool {
+    ghost goes_none = { λ _. tt };
+
+    ghost goes_on = { λ _ _ _ xs ys a b. AllByRecursion-append IsUnwanted xs ys a b };
+
+    fn wanted(&mut self) -> bool
+        ensures never { result ≡ false }
+        ensures same { self.new ≡ self.old }
+        ensures goes { AllByRecursion IsUnwanted (was_asked result ∷ []) }
+    {
         false
     }
 
@@ -119,6 +144,7 @@ impl<'a, P: Problem> Outlet<P> for Outbox<'a, P> {
         ensures problem { self.new.problem.now ≡ self.old.problem.now }
         ensures kept { Unit {0} }
         ensures later { OnOk result (Unit {0}) }
+        ensures goes { OnOk result (AllByRecursion IsUnwanted (was_given (paths_of tasks.items) ∷ [])) }
     {
         let mut tasks = tasks;
         self.tasks.append(&mut tasks)?;

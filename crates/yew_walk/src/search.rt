@@ -13,7 +13,7 @@ ghost use Rattle.yew_walk.specs.LogViews.{log_view};
 ghost use Rattle.yew_walk.specs.PlainSearch.{searched_tree, NeverCuts, IsPlainLog, HasPlainLog, IsPlainFault};
 
 use crate::fault::SearchFault;
-use crate::hand::Hand;
+use crate::hand::{Hand, empty_hand};
 use crate::keying::Keying;
 use crate::outlet::Outbox;
 use crate::policy::Plain;
@@ -23,9 +23,6 @@ use yew_best::Best;
 use yew_kinds::{Answer, Clipped, Counted, Kind, NoTally, Tally};
 use yew_laws::{Memory, Path, Problem, Task};
 use yew_log::Recorder;
-
-// No path of a tree has more numbers.
-const LONGEST_PATH: u32 = 65_535;
 
 /// The answer of a search, and the logs of its workers, the first one's first.
 #[derive(Drop)]
@@ -39,20 +36,6 @@ pub struct Found<S, R> {
 struct Alone<S, R> {
     hand: Hand<S>,
     log: R,
-}
-
-/// A hand with nothing in it, whose path has room for any path of a tree.
-fn empty_hand<N, T: Tally<N>>(alloc: Global, tally: &T) -> Result<Hand<T::Sum>, Memory>
-    ensures holds { IfOk result (λ hand. hand.holds ≡ false) }
-    ensures sum { IfOk result (λ hand. hand.sum ≡ T.none tally.now) }
-    ensures space { IfOk result (λ hand. 65535 ≤ hand.path.space) }
-{
-    Ok(Hand {
-        sum: tally.none(alloc)?,
-        key: 0,
-        path: Path::empty(alloc, LONGEST_PATH)?,
-        holds: false,
-    })
 }
 
 /// Searches the whole tree of a problem as one task.

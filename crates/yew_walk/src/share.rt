@@ -73,7 +73,7 @@ fn share<P: Problem, O: Outlet<P>, R: Recorder>(
     requires root { P.sound problem.now (P.root problem.now) }
     requires outlet { O.problem outlet.old ≡ problem.now }
     requires levels_open { AllOpen P.Problem problem.now stack.old.levels }
-    ensures ok { OnOk result (IsShared P.Problem problem.now chunk what stack.old.levels (log_view (R.told log.old) (R.totals log.old) (R.number log.old)) (O.sent outlet.old) stack.new.levels (log_view (R.told log.new) (R.totals log.new) (R.number log.new)) (O.sent outlet.new)) }
+    ensures ok { OnOk result (IsShared P.Problem problem.now chunk what (λ calls. O.goes outlet.old calls outlet.new) stack.old.levels (log_view (R.told log.old) (R.totals log.old) (R.number log.old)) (O.sent outlet.old) stack.new.levels (log_view (R.told log.new) (R.totals log.new) (R.number log.new)) (O.sent outlet.new)) }
     ensures err { IfErr result (λ fault. StopsSharing P.Problem problem.now what fault stack.old.levels (log_view (R.told log.old) (R.totals log.old) (R.number log.old)) (O.sent outlet.old) stack.new.levels (log_view (R.told log.new) (R.totals log.new) (R.number log.new)) (O.sent outlet.new)) }
     ensures answers { O.answers outlet.new ≡ O.answers outlet.old }
     ensures problem { O.problem outlet.new ≡ O.problem outlet.old }
@@ -111,7 +111,7 @@ pub(crate) fn ask<P: Problem, Q: Policy, O: Outlet<P>, R: Recorder>(
     requires outlet { O.problem outlet.old ≡ problem.now }
     requires levels_open { AllOpen P.Problem problem.now stack.old.levels }
     ensures ok { OnOk result ((wanted : Bool) × (O.answers outlet.new ≡ option_map (λ given. given ++ wanted ∷ []) (O.answers outlet.old))
-        × IsAsked P.Problem problem.now Q.meaning (input_of event depth wanted) policy.old stack.old.levels (log_view (R.told log.old) (R.totals log.old) (R.number log.old)) (O.sent outlet.old)
+        × IsAsked P.Problem problem.now Q.meaning (input_of event depth wanted) (λ calls. O.goes outlet.old calls outlet.new) policy.old stack.old.levels (log_view (R.told log.old) (R.totals log.old) (R.number log.old)) (O.sent outlet.old)
         policy.new stack.new.levels (log_view (R.told log.new) (R.totals log.new) (R.number log.new)) (O.sent outlet.new)) }
     ensures err { IfErr result (λ fault. (wanted : Bool) × StopsAsking P.Problem problem.now Q.meaning (input_of event depth wanted) fault policy.old
         stack.old.levels (log_view (R.told log.old) (R.totals log.old) (R.number log.old)) (O.sent outlet.old) stack.new.levels (log_view (R.told log.new) (R.totals log.new) (R.number log.new)) (O.sent outlet.new)) }

@@ -158,6 +158,7 @@ struct Wanting<'a, P: Problem> {
     problem: &'a P,
     tasks: Vec<Task<P>>,
     calls: u32,
+    lists: u32,
     from: u32,
 }
 
@@ -169,6 +170,7 @@ impl<'a, P: Problem> Wanting<'a, P> {
             problem,
             tasks: Vec::new(alloc),
             calls: 0,
+            lists: 0,
             from,
         }
     }
@@ -195,6 +197,12 @@ impl<'a, P: Problem> Outlet<P> for Wanting<'a, P> {
 
     ghost later_twice = { λ _ _ _ _ _. tt };
 
+    ghost goes = { λ _ _ _. Unit {0} };
+
+    ghost goes_none = { λ _. tt };
+
+    ghost goes_on = { λ _ _ _ _ _ _ _. tt };
+
     fn wanted(&mut self) -> bool {
         self.calls = self.calls.saturating_add(1);
         self.calls >= self.from
@@ -209,7 +217,9 @@ impl<'a, P: Problem> Outlet<P> for Wanting<'a, P> {
         ensures problem { self.new.problem.now ≡ self.old.problem.now }
         ensures kept { Unit {0} }
         ensures later { OnOk result (Unit {0}) }
+        ensures goes { OnOk result (Unit {0}) }
     {
+        self.lists = self.lists.saturating_add(1);
         let mut tasks = tasks;
         self.tasks.append(&mut tasks)?;
         Ok(())

@@ -38,9 +38,9 @@ pub fn consider<P: Problem>(
     judge(problem, best, seat, keying, &task.path, &task.node)
 }
 
-/// Considers the node at a path.
+/// Decides of the node at a path as [`consider`] does of a task. The node need not stand in a task, nor the path be its own.
 #[inline(always)]
-pub(crate) fn judge<P: Problem>(
+pub fn judge<P: Problem>(
     problem: &P,
     best: &Best,
     seat: &mut BestSeat,

@@ -116,13 +116,13 @@ fn turn<P: Problem, Q: Policy, O: Outlet<P>, T: Tally<P::Node>, R: Recorder>(
     requires space { 65535 ≤ hand.old.path.space }
     requires fits { T.fits tally.now hand.old.sum }
     requires levels_open { AllOpen P.Problem problem.now stack.old.levels }
-    ensures ok { OnOk result ((task : List ℕ) (first : Scene P P.Node P.Kids T.Sum Q) →
-        IsWalking P.Problem problem.now keying (T.join tally.now) (T.of tally.now) Q.meaning task first
+    ensures ok { OnOk result ((task : List ℕ) (start : O) (first : Scene P P.Node P.Kids T.Sum Q) →
+        IsWalking P.Problem problem.now keying (T.join tally.now) (T.of tally.now) Q.meaning task (λ calls. O.goes start calls outlet.old) first
         (scene seat.old hand.old policy.old (O.sent outlet.old) (O.answers outlet.old) (log_view (R.told log.old) (R.totals log.old) (R.number log.old))) stack.old.levels
-        → IsWalking P.Problem problem.now keying (T.join tally.now) (T.of tally.now) Q.meaning task first
+        → IsWalking P.Problem problem.now keying (T.join tally.now) (T.of tally.now) Q.meaning task (λ calls. O.goes start calls outlet.new) first
         (scene seat.new hand.new policy.new (O.sent outlet.new) (O.answers outlet.new) (log_view (R.told log.new) (R.totals log.new) (R.number log.new))) stack.new.levels) }
-    ensures err { IfErr result (λ fault. (task : List ℕ) (first : Scene P P.Node P.Kids T.Sum Q) →
-        IsWalking P.Problem problem.now keying (T.join tally.now) (T.of tally.now) Q.meaning task first
+    ensures err { IfErr result (λ fault. (task : List ℕ) (start : O) (first : Scene P P.Node P.Kids T.Sum Q) →
+        IsWalking P.Problem problem.now keying (T.join tally.now) (T.of tally.now) Q.meaning task (λ calls. O.goes start calls outlet.old) first
         (scene seat.old hand.old policy.old (O.sent outlet.old) (O.answers outlet.old) (log_view (R.told log.old) (R.totals log.old) (R.number log.old))) stack.old.levels
         → IsRefused P.Problem problem.now keying (T.join tally.now) (T.of tally.now) Q.meaning task first
         (scene seat.new hand.new policy.new (O.sent outlet.new) (O.answers outlet.new) (log_view (R.told log.new) (R.totals log.new) (R.number log.new))) fault) }
@@ -200,7 +200,7 @@ pub fn walk<P: Problem, Q: Policy, O: Outlet<P>, T: Tally<P::Node>, R: Recorder>
     requires outlet { O.problem outlet.old ≡ problem.now }
     requires space { 65535 ≤ hand.old.path.space }
     requires fits { T.fits tally.now hand.old.sum }
-    ensures walked { OnOk result (IsWalked P.Problem problem.now keying (T.join tally.now) (T.of tally.now) Q.meaning task.path.numbers (T.none tally.now)
+    ensures walked { OnOk result (IsWalked P.Problem problem.now keying (T.join tally.now) (T.of tally.now) Q.meaning task.path.numbers (T.none tally.now) (λ calls. O.goes outlet.old calls outlet.new)
         (scene seat.old hand.old policy.old (O.sent outlet.old) (O.answers outlet.old) (log_view (R.told log.old) (R.totals log.old) (R.number log.old)))
         (scene seat.new hand.new policy.new (O.sent outlet.new) (O.answers outlet.new) (log_view (R.told log.new) (R.totals log.new) (R.number log.new)))) }
     ensures refused { IfErr result (IsRefused P.Problem problem.now keying (T.join tally.now) (T.of tally.now) Q.meaning task.path.numbers

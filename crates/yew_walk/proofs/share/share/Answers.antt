@@ -29,6 +29,7 @@ returns-in-Ok-send-clause-ok g c = record {
   log_is = rw c.as_slice.ensures.value at c.in-Ok-note_all.ensures.ok;
   within = c.in-Ok-note_all.ensures.within;
   sent_are = c.in-Ok-send.ensures.ok;
+  given_is = c.in-Ok-send.ensures.goes;
 }
 
 pub returns-in-Err-send-clause-err : goal.returns-in-Err-send-clause-err

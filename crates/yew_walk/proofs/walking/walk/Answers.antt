@@ -6,6 +6,7 @@ use Rattle.yew_walk.specs.LogViews.{log_view}
 use Rattle.yew_walk.specs.Scenes.{scene}
 use Rattle.yew_walk.proofs.Endings.{awaits-start, asked-open, walking-walked}
 use Rattle.yew_walk.proofs.Refusals.{taken-stops, awaits-stops, event-stops}
+use Rattle.yew_walk.proofs.UnderWays.{found-there}
 use Rattle.yew_walk.proofs.Walkings.{awaits-enters, event-asked}
 use Rattle.yew_walk.proofs.walking.walk.Goals as goal
 
@@ -14,7 +15,7 @@ returns-in-Err-clause-refused g c =
     let t = c.args.tally.now in
     let first = scene c.args.seat.now c.args.hand.now c.args.policy.now (g.O.Outlet.sent c.args.outlet.now) (g.O.Outlet.answers c.args.outlet.now) (log_view (g.R.Recorder.told c.args.log.now) (g.R.Recorder.totals c.args.log.now) (g.R.Recorder.number c.args.log.now)) in
     let after = scene c.args.seat.now c.args.hand.now c.args.policy.now (g.O.Outlet.sent c.args.outlet.now) (g.O.Outlet.answers c.args.outlet.now) (log_view (g.R.Recorder.told c.note.new.log) (g.R.Recorder.totals c.note.new.log) (g.R.Recorder.number c.note.new.log)) in
-    taken-stops g.P.Problem c.args.problem.now c.args.keying (g.T.Tally.join t) (g.T.Tally.of t) g.Q.Policy.meaning c.args.task.path.numbers (g.P.Problem.ranked c.args.problem.now) c.requires.root first after c.in-Err.fault refl refl c.in-Err.ensures.err c.in-Err.ensures.cause
+    taken-stops g.P.Problem c.args.problem.now c.args.keying (g.T.Tally.join t) (g.T.Tally.of t) g.Q.Policy.meaning c.args.task.path.numbers (g.P.Problem.ranked c.args.problem.now) c.requires.root (found-there g.P.Problem c.args.problem.now c.args.keying c.args.task.path.numbers c.args.task.path.numbers c.args.task.node c.requires.task) first after c.in-Err.fault refl refl c.in-Err.ensures.err c.in-Err.ensures.cause
 
 pub overflow_cast-depth : goal.overflow_cast-depth
 overflow_cast-depth g c =
@@ -32,8 +33,8 @@ returns-in-Err-enter-clause-refused g c =
     let first = scene c.args.seat.now c.args.hand.now c.args.policy.now (g.O.Outlet.sent c.args.outlet.now) (g.O.Outlet.answers c.args.outlet.now) (log_view (g.R.Recorder.told c.args.log.now) (g.R.Recorder.totals c.args.log.now) (g.R.Recorder.number c.args.log.now)) in
     let now = scene c.args.seat.now c.args.hand.now c.start.new.self (g.O.Outlet.sent c.args.outlet.now) (g.O.Outlet.answers c.args.outlet.now) (log_view (g.R.Recorder.told c.note.new.log) (g.R.Recorder.totals c.note.new.log) (g.R.Recorder.number c.note.new.log)) in
     let after = scene c.enter.new.seat c.enter.new.hand c.start.new.self (g.O.Outlet.sent c.args.outlet.now) (g.O.Outlet.answers c.args.outlet.now) (log_view (g.R.Recorder.told c.enter.new.log) (g.R.Recorder.totals c.enter.new.log) (g.R.Recorder.number c.enter.new.log)) in
-    let awaits = awaits-start meaning problem c.args.keying (g.T.Tally.join t) (g.T.Tally.of t) g.Q.Policy.meaning path (meaning.ranked problem) c.requires.root first now node c.requires.task refl refl refl refl c.start.ensures c.in-Ok.ensures.ok in
-    awaits-stops meaning problem c.args.keying (g.T.Tally.join t) (g.T.Tally.of t) g.Q.Policy.meaning path (meaning.ranked problem) first now after [] path node c.in-Err-enter.fault c.requires.task awaits (rw c.new-stack.ensures at c.in-Err-enter.ensures.err) refl
+    let awaits = awaits-start meaning problem c.args.keying (g.T.Tally.join t) (g.T.Tally.of t) g.Q.Policy.meaning path {did = λ calls. g.O.Outlet.goes c.args.outlet.now calls c.args.outlet.now} (meaning.ranked problem) c.requires.root first now node c.requires.task refl refl refl refl c.start.ensures c.in-Ok.ensures.ok (g.O.Outlet.goes_none c.args.outlet.now) in
+    awaits-stops meaning problem c.args.keying (g.T.Tally.join t) (g.T.Tally.of t) g.Q.Policy.meaning path (meaning.ranked problem) c.requires.root first now after [] path node c.in-Err-enter.fault c.requires.task awaits (rw c.new-stack.ensures at c.in-Err-enter.ensures.err) refl
 
 pub returns-in-Err-enter-clause-kept : goal.returns-in-Err-enter-clause-kept
 returns-in-Err-enter-clause-kept g c = g.O.Outlet.kept_same c.args.outlet.now
@@ -49,11 +50,11 @@ returns-in-Err-ask-clause-refused g c =
     let now = scene c.args.seat.now c.args.hand.now c.start.new.self (g.O.Outlet.sent c.args.outlet.now) (g.O.Outlet.answers c.args.outlet.now) (log_view (g.R.Recorder.told c.note.new.log) (g.R.Recorder.totals c.note.new.log) (g.R.Recorder.number c.note.new.log)) in
     let mid = scene c.enter.new.seat c.enter.new.hand c.start.new.self (g.O.Outlet.sent c.args.outlet.now) (g.O.Outlet.answers c.args.outlet.now) (log_view (g.R.Recorder.told c.enter.new.log) (g.R.Recorder.totals c.enter.new.log) (g.R.Recorder.number c.enter.new.log)) in
     let after = scene c.enter.new.seat c.enter.new.hand c.ask.new.policy (g.O.Outlet.sent c.ask.new.outlet) (g.O.Outlet.answers c.ask.new.outlet) (log_view (g.R.Recorder.told c.ask.new.log) (g.R.Recorder.totals c.ask.new.log) (g.R.Recorder.number c.ask.new.log)) in
-    let awaits = awaits-start meaning problem c.args.keying (g.T.Tally.join t) (g.T.Tally.of t) g.Q.Policy.meaning path (meaning.ranked problem) c.requires.root first now node c.requires.task refl refl refl refl c.start.ensures c.in-Ok.ensures.ok in
+    let awaits = awaits-start meaning problem c.args.keying (g.T.Tally.join t) (g.T.Tally.of t) g.Q.Policy.meaning path {did = λ calls. g.O.Outlet.goes c.args.outlet.now calls c.args.outlet.now} (meaning.ranked problem) c.requires.root first now node c.requires.task refl refl refl refl c.start.ensures c.in-Ok.ensures.ok (g.O.Outlet.goes_none c.args.outlet.now) in
     let entered = rw c.new-stack.ensures at c.in-Ok-enter.ensures.ok in
     let happened = awaits-enters meaning problem c.args.keying (g.T.Tally.join t) (g.T.Tally.of t) g.Q.Policy.meaning path (meaning.ranked problem) c.in-Ok-enter.event first now mid [] c.enter.new.stack.levels path node c.requires.task awaits entered c.in-Ok-enter.ensures.within refl refl refl in
     let asked = rw c.numbers.ensures.value at c.in-Err-ask.ensures.err in
-    event-stops meaning problem c.args.keying (g.T.Tally.join t) (g.T.Tally.of t) g.Q.Policy.meaning path asked.0 first mid after c.enter.new.stack.levels c.ask.new.stack.levels c.in-Ok-enter.event (length path) c.in-Err-ask.fault happened asked.1 refl
+    event-stops meaning problem c.args.keying (g.T.Tally.join t) (g.T.Tally.of t) g.Q.Policy.meaning path (meaning.ranked problem) c.requires.root asked.0 first mid after c.enter.new.stack.levels c.ask.new.stack.levels c.in-Ok-enter.event (length path) c.in-Err-ask.fault happened asked.1 refl
 
 pub loop-stack-init : goal.loop-stack-init
 loop-stack-init g c =
@@ -66,7 +67,7 @@ loop-stack-init g c =
     let now = scene c.args.seat.now c.args.hand.now c.start.new.self (g.O.Outlet.sent c.args.outlet.now) (g.O.Outlet.answers c.args.outlet.now) (log_view (g.R.Recorder.told c.note.new.log) (g.R.Recorder.totals c.note.new.log) (g.R.Recorder.number c.note.new.log)) in
     let mid = scene c.enter.new.seat c.enter.new.hand c.start.new.self (g.O.Outlet.sent c.args.outlet.now) (g.O.Outlet.answers c.args.outlet.now) (log_view (g.R.Recorder.told c.enter.new.log) (g.R.Recorder.totals c.enter.new.log) (g.R.Recorder.number c.enter.new.log)) in
     let after = scene c.enter.new.seat c.enter.new.hand c.ask.new.policy (g.O.Outlet.sent c.ask.new.outlet) (g.O.Outlet.answers c.ask.new.outlet) (log_view (g.R.Recorder.told c.ask.new.log) (g.R.Recorder.totals c.ask.new.log) (g.R.Recorder.number c.ask.new.log)) in
-    let awaits = awaits-start meaning problem c.args.keying (g.T.Tally.join t) (g.T.Tally.of t) g.Q.Policy.meaning path (meaning.ranked problem) c.requires.root first now node c.requires.task refl refl refl refl c.start.ensures c.in-Ok.ensures.ok in
+    let awaits = awaits-start meaning problem c.args.keying (g.T.Tally.join t) (g.T.Tally.of t) g.Q.Policy.meaning path (meaning.ranked problem) c.requires.root first now node c.requires.task refl refl refl refl c.start.ensures c.in-Ok.ensures.ok (g.O.Outlet.goes_none c.args.outlet.now) in
     let entered = rw c.new-stack.ensures at c.in-Ok-enter.ensures.ok in
     let happened = awaits-enters meaning problem c.args.keying (g.T.Tally.join t) (g.T.Tally.of t) g.Q.Policy.meaning path (meaning.ranked problem) c.in-Ok-enter.event first now mid [] c.enter.new.stack.levels path node c.requires.task awaits entered c.in-Ok-enter.ensures.within refl refl refl in
     let asked = rw c.numbers.ensures.value at c.in-Ok-ask.ensures.ok in
@@ -80,7 +81,7 @@ loop-stack-init g c =
       problem = c.ask.ensures.problem;
       kept = c.ask.ensures.kept;
       later = c.in-Ok-ask.ensures.later;
-      walking = event-asked meaning problem c.args.keying (g.T.Tally.join t) (g.T.Tally.of t) g.Q.Policy.meaning path asked.0 c.in-Ok-enter.event (length path) first mid after c.enter.new.stack.levels c.ask.new.stack.levels happened asked.2 refl refl asked.1;
+      walking = event-asked meaning problem c.args.keying (g.T.Tally.join t) (g.T.Tally.of t) g.Q.Policy.meaning path asked.0 c.in-Ok-enter.event (length path) first mid after c.enter.new.stack.levels c.ask.new.stack.levels happened asked.2 (g.O.Outlet.goes_on c.args.outlet.now c.args.outlet.now c.ask.new.outlet) refl refl asked.1;
     }
 
 pub loop-stack-preserved : goal.loop-stack-preserved
@@ -95,7 +96,7 @@ loop-stack-preserved g c =
       problem = c.turn.ensures.problem ∙ before.problem;
       kept = g.O.Outlet.kept_twice c.args.outlet.now c.loop-stack.outlet c.turn.new.outlet before.kept c.turn.ensures.kept;
       later = g.O.Outlet.later_twice c.args.outlet.now c.loop-stack.outlet c.turn.new.outlet before.later c.in-Ok-true.ensures.later;
-      walking = c.in-Ok-true.ensures.ok c.args.task.path.numbers _ before.walking;
+      walking = c.in-Ok-true.ensures.ok c.args.task.path.numbers c.args.outlet.now _ before.walking;
     }
 
 pub returns-in-Ok-false-clause-walked : goal.returns-in-Ok-false-clause-walked
@@ -105,7 +106,7 @@ returns-in-Ok-false-clause-walked g c =
     let first = scene c.args.seat.now c.args.hand.now c.args.policy.now (g.O.Outlet.sent c.args.outlet.now) (g.O.Outlet.answers c.args.outlet.now) (log_view (g.R.Recorder.told c.args.log.now) (g.R.Recorder.totals c.args.log.now) (g.R.Recorder.number c.args.log.now)) in
     let after = scene c.turn.new.seat c.turn.new.hand c.turn.new.policy (g.O.Outlet.sent c.turn.new.outlet) (g.O.Outlet.answers c.turn.new.outlet) (log_view (g.R.Recorder.told c.turn.new.log) (g.R.Recorder.totals c.turn.new.log) (g.R.Recorder.number c.turn.new.log)) in
     let empty = rw c.in-Ok-false.field-0-test at c.in-Ok-false.ensures.more in
-    walking-walked g.P.Problem c.args.problem.now c.args.keying (g.T.Tally.join t) (g.T.Tally.of t) g.Q.Policy.meaning c.args.task.path.numbers (g.T.Tally.monoid t) (g.T.Tally.of_fits t) first after c.turn.new.stack.levels c.requires.fits empty (c.in-Ok-false.ensures.ok c.args.task.path.numbers first before.walking)
+    walking-walked g.P.Problem c.args.problem.now c.args.keying (g.T.Tally.join t) (g.T.Tally.of t) g.Q.Policy.meaning c.args.task.path.numbers (g.T.Tally.monoid t) (g.T.Tally.of_fits t) first after c.turn.new.stack.levels c.requires.fits empty (c.in-Ok-false.ensures.ok c.args.task.path.numbers c.args.outlet.now first before.walking)
 
 pub returns-in-Ok-false-clause-kept : goal.returns-in-Ok-false-clause-kept
 returns-in-Ok-false-clause-kept g c = g.O.Outlet.kept_twice c.args.outlet.now c.loop-stack.outlet c.turn.new.outlet c.loop-stack.invariant.kept c.turn.ensures.kept
@@ -115,3 +116,6 @@ returns-in-Ok-false-clause-later g c = g.O.Outlet.later_twice c.args.outlet.now 
 
 pub returns-in-Err-turn-clause-kept : goal.returns-in-Err-turn-clause-kept
 returns-in-Err-turn-clause-kept g c = g.O.Outlet.kept_twice c.args.outlet.now c.loop-stack.outlet c.turn.new.outlet c.loop-stack.invariant.kept c.turn.ensures.kept
+
+pub returns-in-Err-turn-clause-refused : goal.returns-in-Err-turn-clause-refused
+returns-in-Err-turn-clause-refused g c = c.in-Err-turn.ensures.err c.args.task.path.numbers c.args.outlet.now _ c.loop-stack.invariant.walking

@@ -19,7 +19,7 @@ invariant-loop-stack g l =
       problem : outlet.problem l.outlet ≡ outlet.problem l.fn.outlet;
       kept : outlet.kept l.fn.outlet l.outlet;
       later : outlet.later l.fn.outlet l.outlet;
-      walking : IsWalking meaning l.problem l.keying (g.T.Tally.join l.tally) (g.T.Tally.of l.tally) g.Q.Policy.meaning l.fn.task.path.numbers
+      walking : IsWalking meaning l.problem l.keying (g.T.Tally.join l.tally) (g.T.Tally.of l.tally) g.Q.Policy.meaning l.fn.task.path.numbers (λ calls. outlet.goes l.fn.outlet calls l.outlet)
           (scene l.fn.seat l.fn.hand l.fn.policy (outlet.sent l.fn.outlet) (outlet.answers l.fn.outlet) (log_view (log.told l.fn.log) (log.totals l.fn.log) (log.number l.fn.log)))
           (scene l.seat l.hand l.policy (outlet.sent l.outlet) (outlet.answers l.outlet) (log_view (log.told l.log) (log.totals l.log) (log.number l.log)))
           l.stack.levels;

@@ -18,6 +18,7 @@ loop-place-init g c =
       same = ap (λ v. levels (g.P.Problem.remaining c.args.problem.now) v.levels) c.self.view_is;
       spent = tt;
       kept = refl;
+      stays = (ap (λ v. v.path) c.self.view_is, ap (λ v. v.first) c.self.view_is);
     }
 
 pub invariant_of-self : goal.invariant_of-self
@@ -259,6 +260,7 @@ loop-place-preserved g c =
       same = set_is ∙ place-same view (levels_along path first rungs) c.loop-place.place level_place (level_at node_path rung) at_rung (level_at node_path after) none.2 ∙ before.same;
       spent = place-so_far view (levels_along path first rungs) c.loop-place.place level_place (level_at node_path rung) at_rung seen before.same (λ level. level.remaining ≡ []) before.spent none.0;
       kept = none.1 ∙ before.kept;
+      stays = before.stays;
     }
 
 pub returns-clause-ok : goal.returns-clause-ok
@@ -278,3 +280,12 @@ pub returns-clause-levels_open : goal.returns-clause-levels_open
 returns-clause-levels_open g c =
     let before = c.loop-place.invariant in
     none-open g.P.Problem c.args.problem.now c.args.self.now.levels (levels_along c.loop-place.self-inside.path.numbers c.loop-place.self-inside.first c.loop-place.self-inside.rungs.items) c.args.into.now.items c.loop-place.into.items before.same before.kept
+
+pub returns-in_err-split-clause-path : goal.returns-in_err-split-clause-path
+returns-in_err-split-clause-path g c = c.loop-place.invariant.stays
+
+pub returns-then-branch-clause-path : goal.returns-then-branch-clause-path
+returns-then-branch-clause-path g c = c.loop-place.invariant.stays
+
+pub returns-clause-path : goal.returns-clause-path
+returns-clause-path g c = c.loop-place.invariant.stays

@@ -3,7 +3,7 @@ use Rattle.yew_stack.specs.Descents.{levels_along}
 use Rattle.yew_stack.specs.Levels.{levels, AreSpent}
 use Rattle.yew_stack.proofs.descent.Descent.split_lowest.Given as goal
 
--- the levels so far have nothing to come, and nothing was moved
+-- the levels so far have nothing to come, nothing was moved, and the descent stands where it stood
 abbrev pub invariant-loop-place : goal.invariant-loop-place
 invariant-loop-place g l =
     let remaining = g.P.Problem.remaining l.problem in
@@ -14,4 +14,5 @@ invariant-loop-place g l =
       same : levels remaining (levels_along inside.path.numbers inside.first inside.rungs.items) ≡ levels remaining l.fn.self.levels;
       spent : AreSpent (take l.place (levels remaining l.fn.self.levels));
       kept : l.into.items ≡ l.fn.into.items;
+      stays : (inside.path.numbers ≡ l.fn.self.path) × (inside.first ≡ l.fn.self.first);
     }
