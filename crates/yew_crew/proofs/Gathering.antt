@@ -17,7 +17,7 @@ module _ {S : Type 0} (fits : S → Type 0) (join : S → S → S) (none : S) wh
     pub fits_sum : fits hand.sum
 
   -- no hand of a gathered list has a greater key than the gathered one
-  none-greater : (hands : List (Hand S)) (chosen : Hand S) (key : ℕ) → IsFirstBest hands chosen → chosen.key ≤ key → AllByRecursion (λ (h : Hand S). h.holds ≡ true → h.key ≤ key) hands
+  pub none-greater : (hands : List (Hand S)) (chosen : Hand S) (key : ℕ) → IsFirstBest hands chosen → chosen.key ≤ key → AllByRecursion (λ (h : Hand S). h.holds ≡ true → h.key ≤ key) hands
   none-greater hands chosen key is le =
       subst (λ hs. AllByRecursion (λ (h : Hand S). h.holds ≡ true → h.key ≤ key) hs) (sym is.stands)
       (AllByRecursion-append (λ (h : Hand S). h.holds ≡ true → h.key ≤ key) is.before (chosen ∷ is.after)

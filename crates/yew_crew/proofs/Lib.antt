@@ -1,5 +1,7 @@
+pub mod BestFinds
 pub mod CrewEnds
 pub mod CrewWork
+pub mod Finished
 pub mod Gathering
 pub mod GroupLaws
 pub mod Joins
