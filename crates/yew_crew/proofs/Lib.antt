@@ -10,3 +10,4 @@ pub mod OpenSeating
 pub mod OpenStepping
 pub mod OpenTies
 pub mod Rows
+pub mod WholeAnswers
