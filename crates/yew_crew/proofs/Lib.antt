@@ -3,6 +3,9 @@ pub mod OpenSeating
 pub mod OpenStepping
 pub mod OpenTies
 pub mod Putting
+pub mod SegmentSums
 pub mod SpawnStep
 pub mod WalkedParts
+pub mod WorkDone
 pub mod WorkSteps
+pub mod WorkTurns

@@ -8,7 +8,8 @@ use Rattle.yew_best.specs.Seats.{SeatView}
 use Rattle.yew_laws.specs.declared.problem.Problem.{Ghosts}
 use Rattle.yew_laws.specs.declared.problem.Task.{Task}
 use Rattle.yew_laws.specs.Bag.{SameBag}
-use Rattle.yew_laws.specs.SearchTree.{search_tree}
+use Rattle.yew_laws.specs.SearchTree.{SearchTree, search_tree}
+use Rattle.yew_log.proofs.SentKinds.{handed-depth, handed-budget}
 use Rattle.yew_laws.proofs.Bags.{same-map, same-trans, same-append, same-refl, same-is, sum_by-map}
 use Rattle.yew_log.specs.Groups.{Part, HasGroups, SkeletonGroup}
 use Rattle.yew_log.specs.Notes.{Note, spawned_paths, handed_paths, sent_paths}
@@ -34,6 +35,12 @@ quiet : (coord : Coord) → Spawns coord → (fact : Part → Type 0) → IfStea
 quiet (Depth d) spawns fact = tt
 quiet (Budget b) spawns fact = tt
 quiet (Steal chunk) spawns fact = absurd spawns
+
+-- all that is sent is spawned
+pub sends-spawned : {N : Type 0} (t : SearchTree N) (coord : Coord) → Spawns coord → (x : Segment) → IsSegment t x → HasGroups (SkeletonGroup t (skeleton_of coord)) x.body → sent_paths x.body ≡ spawned_paths x.body
+sends-spawned t (Depth d) spawns x is has = handed-depth t d x is has
+sends-spawned t (Budget b) spawns x is has = handed-budget t b x is has
+sends-spawned t (Steal chunk) spawns x is has = absurd spawns
 
 paths-append : {S N K : Type 0} (xs ys : List (Task S N K)) → paths_of (xs ++ ys) ≡ paths_of xs ++ paths_of ys
 paths-append [] ys = refl

@@ -5,6 +5,7 @@ mod coord;
 mod open_steps;
 mod open_tasks;
 mod open_view;
+mod spawn;
 mod spawning;
 mod station;
 
