@@ -5,9 +5,17 @@ pub mod Finished
 pub mod Gathering
 pub mod GroupLaws
 pub mod Joins
+pub mod LookSteps
 pub mod NearBest
 pub mod OpenSeating
 pub mod OpenStepping
 pub mod OpenTies
+pub mod Putting
 pub mod Rows
+pub mod SegmentSums
+pub mod SpawnStep
+pub mod WalkedParts
 pub mod WholeAnswers
+pub mod WorkDone
+pub mod WorkSteps
+pub mod WorkTurns

@@ -7,5 +7,8 @@ pub mod Looks
 pub mod OpenRule
 pub mod OpenSeats
 pub mod OpenViews
+pub mod OutletLaws
+pub mod Outlets
 pub mod Reports
 pub mod Stations
+pub mod Working

@@ -6,6 +6,12 @@ use Rattle.yew_mail.specs.Views.{first_of}
 use Rattle.yew_mail.specs.declared.view.Ask.TheVariants.{Nowhere}
 use Rattle.yew_walk.specs.Dealt.{part_of_chunk}
 use Rattle.yew_walk.specs.LogViews.{LogView}
+use Rattle.yew_best.specs.Seats.{SeatView}
+use Rattle.yew_laws.specs.declared.problem.Task.{Task}
+use Rattle.yew_mail.specs.Seats.{SeatView as MailSeatView}
+use Rattle.yew_pool.specs.Passes.{PassView}
+use Rattle.yew_walk.specs.declared.hand.Hand.{Hand}
+use Rattle.yew_crew.specs.OpenSeats.{OpenSeatView}
 use Rattle.yew_crew.specs.declared.coord.Coord.{Coord}
 use Rattle.yew_crew.specs.declared.coord.Coord.TheVariants.{Depth, Budget, Steal}
 use Rattle.yew_crew.specs.declared.station.Shared.{Shared}
@@ -36,6 +42,12 @@ IsCoord (Depth depth) = Unit {0}
 IsCoord (Budget every) = 1 ≤ every
 IsCoord (Steal chunk) = Unit {0}
 
+-- tasks go to the pool
+abbrev pub Spawns : Coord → Type 0
+Spawns (Depth depth) = Unit {0}
+Spawns (Budget every) = Unit {0}
+Spawns (Steal chunk) = ⊥
+
 -- a fact of the part that is handed over, where workers ask each other for tasks
 abbrev pub IfSteal : Coord → (Part → Type 0) → Type 0
 IfSteal (Depth depth) fact = Unit {0}
@@ -43,6 +55,10 @@ IfSteal (Budget every) fact = Unit {0}
 IfSteal (Steal chunk) fact = fact (part_of_chunk chunk)
 
 module _ {P S R N K : Type 0} where
+  -- the station of these parts
+  abbrev pub station : ℕ → SeatView → PassView (Task P N K) P → MailSeatView (Task P N K) P → OpenSeatView → Hand S → R → Station P S R N K
+  station number best pool mail tasks hand log = record { number = number; best = best; pool = pool; mail = mail; tasks = tasks; hand = hand; log = log }
+
   -- A station is ready for a worker: its seats and its pass are of the shared objects and about the problem, its number is that of its mailbox, where it has no ask, the path of its hand has its space, and its sum fits
   pub record IsReady (fits : S → Type 0) (problem : P) (shared : Shared P N K) (station : Station P S R N K) : Type 0 where
     pub of_best : station.best.best ≡ shared.best

@@ -8,6 +8,8 @@ pub mod laws;
 mod open_steps;
 mod open_tasks;
 mod open_view;
+mod spawn;
+mod spawning;
 mod station;
 
 pub use coord::Coord;

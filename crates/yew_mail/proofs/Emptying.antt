@@ -20,7 +20,8 @@ module _ {T : Type 0} where
   empty_begins slots before after lasts same = record { count = 0; appended = same ∙ sym (append-nil before); all = λ _. refl }
 
   -- what the next slot had was appended, or was not, since memory ran out here or before
-  pub empty_more : (slots : List (Vec T)) (before after last : List T) (i : ℕ) (slot : Vec T) (lasts now : Bool) → IsEmptying slots before i lasts after → get_elem? slots i ≡ some slot
+  pub empty_more : (slots : List (Vec T)) (before after last : List T) (i : ℕ) (slot : Vec T) (lasts now : Bool) → IsEmptying slots before i lasts after
+      → get_elem? slots i ≡ some slot
       → (now ≡ true → (lasts ≡ true) × (last ≡ after ++ slot.items)) → (now ≡ false → last ≡ after) → IsEmptying slots before (i + 1) now last
   empty_more slots before after last i slot lasts true so_far here appended dropped =
       let all = so_far.all (appended refl).0 in
@@ -49,7 +50,8 @@ stay_full flags after i last is full k low high =
     ap (λ l. get_or l k false) is ∙ get_or-set_other flags i k false false (λ e. omega (arith, e, low)) ∙ full k (omega (arith, low)) high
 
 -- and it is taken, as those before it
-pub all_taken : (flags after : List Bool) (i : ℕ) → after ≡ set flags i false → ((k : ℕ) → k < i → get_or flags k false ≡ false) → (k : ℕ) → k < i + 1 → get_or after k false ≡ false
+pub all_taken : (flags after : List Bool) (i : ℕ) → after ≡ set flags i false → ((k : ℕ) → k < i → get_or flags k false ≡ false) → (k : ℕ) → k < i + 1
+    → get_or after k false ≡ false
 all_taken flags after i is before k low = ap (λ l. get_or l k false) is ∙ here (ℕ_discrete k i)
   where
     here : Dec (k ≡ i) → get_or (set flags i false) k false ≡ false

@@ -17,9 +17,11 @@ some_popped xs (y ∷ ys) some e = omega arith
 
 module _ {T Q : Type 0} where
   -- the last seat was taken off
-  pub gather_begins : (mail : MailId) (all rest : List (SeatView T Q)) (seat : SeatView T Q) → AllByRecursion (λ (other : SeatView T Q). other.mail ≡ mail) all → all ≡ rest ++ seat ∷ [] → IsGathering mail all rest seat
+  pub gather_begins : (mail : MailId) (all rest : List (SeatView T Q)) (seat : SeatView T Q)
+      → AllByRecursion (λ (other : SeatView T Q). other.mail ≡ mail) all → all ≡ rest ++ seat ∷ [] → IsGathering mail all rest seat
   gather_begins mail all rest seat same is =
-      let parts = all_parts (λ (other : SeatView T Q). other.mail ≡ mail) rest (seat ∷ []) (subst (λ l. AllByRecursion (λ (other : SeatView T Q). other.mail ≡ mail) l) is same) in
+      let parts = all_parts (λ (other : SeatView T Q). other.mail ≡ mail) rest (seat ∷ [])
+      (subst (λ l. AllByRecursion (λ (other : SeatView T Q). other.mail ≡ mail) l) is same) in
       record {
         same = parts.0;
         mine = parts.1.0;
@@ -35,17 +37,27 @@ module _ {T Q : Type 0} where
       sum_off f = let a = sum_by_push f rest seat in let b = ap (sum_by f) is in omega (arith, a, b)
 
   -- and another was joined to it
-  pub gather_more : (mail : MailId) (all rest fewer : List (SeatView T Q)) (seat other after : SeatView T Q) → IsGathering mail all rest seat → rest ≡ fewer ++ other ∷ []
-      → after ≡ record seat { share = seat.share + other.share; numbers = seat.numbers ++ other.numbers; given = seat.given ++ other.given; got = seat.got ++ other.got; found = seat.found ++ other.found }
+  pub gather_more : (mail : MailId) (all rest fewer : List (SeatView T Q)) (seat other after : SeatView T Q) → IsGathering mail all rest seat
+      → rest ≡ fewer ++ other ∷ []
+      → after ≡ record seat {
+        share = seat.share + other.share;
+        numbers = seat.numbers ++ other.numbers;
+        given = seat.given ++ other.given;
+        got = seat.got ++ other.got;
+        found = seat.found ++ other.found;
+      }
       → IsGathering mail all fewer after
   gather_more mail all rest fewer seat other after so_far is after_is =
-      let parts = all_parts (λ (o : SeatView T Q). o.mail ≡ mail) fewer (other ∷ []) (subst (λ l. AllByRecursion (λ (o : SeatView T Q). o.mail ≡ mail) l) is so_far.same) in
+      let parts = all_parts (λ (o : SeatView T Q). o.mail ≡ mail) fewer (other ∷ [])
+      (subst (λ l. AllByRecursion (λ (o : SeatView T Q). o.mail ≡ mail) l) is so_far.same) in
       record {
         same = parts.0;
         mine = ap (λ (s : SeatView T Q). s.mail) after_is ∙ so_far.mine;
         shares = sum_on (λ (s : SeatView T Q). s.share) (ap (λ (s : SeatView T Q). s.share) after_is) so_far.shares;
-        given = λ h. sum_on (λ (s : SeatView T Q). sum_by h s.given) (ap (λ (s : SeatView T Q). sum_by h s.given) after_is ∙ sum_by-append h seat.given other.given) (so_far.given h);
-        got = λ h. sum_on (λ (s : SeatView T Q). sum_by h s.got) (ap (λ (s : SeatView T Q). sum_by h s.got) after_is ∙ sum_by-append h seat.got other.got) (so_far.got h);
+        given = λ h. sum_on (λ (s : SeatView T Q). sum_by h s.given)
+            (ap (λ (s : SeatView T Q). sum_by h s.given) after_is ∙ sum_by-append h seat.given other.given) (so_far.given h);
+        got = λ h. sum_on (λ (s : SeatView T Q). sum_by h s.got) (ap (λ (s : SeatView T Q). sum_by h s.got) after_is ∙ sum_by-append h seat.got other.got)
+            (so_far.got h);
         problems = λ problem made.
             (let before = so_far.problems problem made in
             let those = all_parts (λ (o : SeatView T Q). o.problem ≡ Some problem) fewer (other ∷ []) (subst (AreFor problem) is before.1) in
@@ -56,6 +68,8 @@ module _ {T Q : Type 0} where
       sum_on f both sums = let a = sum_by_push f fewer other in let b = ap (sum_by f) is in omega (arith, a, b, both, sums)
 
   -- what a join asks of the next seat
-  pub next_mail : (mail : MailId) (all rest fewer : List (SeatView T Q)) (seat other : SeatView T Q) → IsGathering mail all rest seat → rest ≡ fewer ++ other ∷ [] → other.mail ≡ mail
+  pub next_mail : (mail : MailId) (all rest fewer : List (SeatView T Q)) (seat other : SeatView T Q) → IsGathering mail all rest seat
+      → rest ≡ fewer ++ other ∷ [] → other.mail ≡ mail
   next_mail mail all rest fewer seat other so_far is =
-      (all_parts (λ (o : SeatView T Q). o.mail ≡ mail) fewer (other ∷ []) (subst (λ l. AllByRecursion (λ (o : SeatView T Q). o.mail ≡ mail) l) is so_far.same)).1.0
+      (all_parts (λ (o : SeatView T Q). o.mail ≡ mail) fewer (other ∷ [])
+      (subst (λ l. AllByRecursion (λ (o : SeatView T Q). o.mail ≡ mail) l) is so_far.same)).1.0

@@ -23,7 +23,8 @@ use Rattle.yew_mail.proofs.Gathering.{all_parts}
 module _ {T : Type 0} where
   -- slots that are all at home weigh what their values weigh
   homes_are : (h : T → ℕ) (homes : List (Option (Vec T))) (slots : List (Vec T)) → length homes ≡ length slots
-      → ((i : ℕ) → i < length homes → (x : Vec T) × (get_elem? homes i ≡ some (some x)) × (get_elem? slots i ≡ some x)) → sum_by (weigh_home h) homes ≡ sum_by (λ (x : Vec T). sum_by h x.items) slots
+      → ((i : ℕ) → i < length homes → (x : Vec T) × (get_elem? homes i ≡ some (some x)) × (get_elem? slots i ≡ some x))
+      → sum_by (weigh_home h) homes ≡ sum_by (λ (x : Vec T). sum_by h x.items) slots
   homes_are h [] [] same there = refl
   homes_are h [] (y ∷ slots) same there = absurd (omega arith)
   homes_are h (o ∷ homes) [] same there = absurd (omega arith)
@@ -34,7 +35,8 @@ module _ {T : Type 0} where
       let r = homes_are h homes slots (omega (arith, same)) (λ i low. there (suc i) (omega (arith, low))) in omega (arith, a, b, c, d, r)
 
   -- a fact of the tasks in each slot
-  all_in : (P : T → Type 0) (slots : List (Vec T)) → ((i : ℕ) (x : Vec T) → get_elem? slots i ≡ some x → AllByRecursion P x.items) → AllByRecursion P (tasks_in slots)
+  all_in : (P : T → Type 0) (slots : List (Vec T)) → ((i : ℕ) (x : Vec T) → get_elem? slots i ≡ some x → AllByRecursion P x.items)
+      → AllByRecursion P (tasks_in slots)
   all_in P [] each = tt
   all_in P (y ∷ slots) each = joined y.items (tasks_in slots) (each 0 y refl) (all_in P slots (λ i x e. each (suc i) x e))
     where
@@ -54,8 +56,10 @@ module _ {T Q : Type 0} (sound : Q → T → Type 0) where
       → IsSettled sound problem v slots
   settles problem workers seat v words slots some_worker whole rests last = record {
     bag = λ h.
-        (let given = total_alone (λ (u : Known T Q). sum_by h u.given) last.0.views seat v last.1.1 (λ j u ne e. ap (λ (w : Known T Q). sum_by h w.given) ((last.1.0.2.each j u e).idle (none_left j u ne e))) in
-        let got = total_alone (λ (u : Known T Q). sum_by h u.got) last.0.views seat v last.1.1 (λ j u ne e. ap (λ (w : Known T Q). sum_by h w.got) ((last.1.0.2.each j u e).idle (none_left j u ne e))) in
+        (let given = total_alone (λ (u : Known T Q). sum_by h u.given) last.0.views seat v last.1.1
+        (λ j u ne e. ap (λ (w : Known T Q). sum_by h w.given) ((last.1.0.2.each j u e).idle (none_left j u ne e))) in
+        let got = total_alone (λ (u : Known T Q). sum_by h u.got) last.0.views seat v last.1.1
+        (λ j u ne e. ap (λ (w : Known T Q). sum_by h w.got) ((last.1.0.2.each j u e).idle (none_left j u ne e))) in
         let bag = last.1.0.2.bag h in
         let homes = homes_are h last.0.homes slots last.3 (λ i low. (let x = there i low in (x.0, x.1, last.4 i x.0 x.1))) in
         omega (arith, given, got, bag, homes));
@@ -64,26 +68,32 @@ module _ {T Q : Type 0} (sound : Q → T → Type 0) where
   }
     where
       none_left : (j : ℕ) (u : Known T Q) → j ≢ seat → get_elem? last.0.views j ≡ some u → u.share ≡ 0
-      none_left j u ne e = let t = two_parts (λ (w : Known T Q). w.share) last.0.views seat j v u ne last.1.1 e in let s = last.1.0.2.shares in omega (arith, t, s, whole)
+      none_left j u ne e = let t = two_parts (λ (w : Known T Q). w.share) last.0.views seat j v u ne last.1.1 e in let s = last.1.0.2.shares in
+          omega (arith, t, s, whole)
 
       there : (i : ℕ) → i < length last.0.homes → (x : Vec T) × (get_elem? last.0.homes i ≡ some (some x))
       there i low =
           let count = last.1.0.2.slots in
           let e : i + 1 - 1 ≡ i = omega arith in
-          let none_out = nobody_holds sound problem workers last.1.0.0 last.0.homes last.0.views seat (i + 1) v last.1.0.2 last.1.1 rests (λ j u ne to some_u _. let n = none_left j u ne to in absurd (omega (arith, n, some_u))) in
-          let home = slot_home sound problem workers last.1.0.0 last.0.homes last.0.views (i + 1) last.1.0.2 (omega arith, omega (arith, low, count)) none_out in
+          let none_out = nobody_holds sound problem workers last.1.0.0 last.0.homes last.0.views seat (i + 1) v last.1.0.2 last.1.1 rests
+          (λ j u ne to some_u _. let n = none_left j u ne to in absurd (omega (arith, n, some_u))) in
+          let home = slot_home sound problem workers last.1.0.0 last.0.homes last.0.views (i + 1) last.1.0.2
+          (omega arith, omega (arith, low, count)) none_out in
           (home.0, subst (λ m. get_elem? last.0.homes m ≡ some (some home.0)) e home.1)
 
-      good : (i : ℕ) (x : Vec T) → get_elem? slots i ≡ some x → (y : Vec T) × (get_elem? last.0.homes i ≡ some (some y)) → AllByRecursion (sound problem) x.items
+      good : (i : ℕ) (x : Vec T) → get_elem? slots i ≡ some x → (y : Vec T) × (get_elem? last.0.homes i ≡ some (some y))
+          → AllByRecursion (sound problem) x.items
       good i x e home =
           let count = last.1.0.2.slots in let long = last.3 in let low = within slots i x e in
           let n : i + 1 - 1 ≡ i = omega arith in
-          let at = last.1.0.2.at_home (i + 1) home.0 (omega arith, omega (arith, low, count, long)) (subst (λ m. get_elem? last.0.homes m ≡ some (some home.0)) (sym n) home.1) in
+          let at = last.1.0.2.at_home (i + 1) home.0 (omega arith, omega (arith, low, count, long))
+          (subst (λ m. get_elem? last.0.homes m ≡ some (some home.0)) (sym n) home.1) in
           let same : home.0 ≡ x = some-injective home.0 x (sym (last.4 i home.0 home.1) ∙ e) in
           subst (λ (z : Vec T). AllByRecursion (sound problem) z.items) same at.1
 
   -- the seat that took in all others, in the words of the contracts
-  bags : (mail : MailId) (mine : TableId) (problem : Q) (v : Known T Q) (all : List (SeatView T Q)) (seat : SeatView T Q) (slots : List (Vec T)) → seat_view mine v ≡ seat → IsGathering mail all [] seat → IsSettled sound problem v slots
+  bags : (mail : MailId) (mine : TableId) (problem : Q) (v : Known T Q) (all : List (SeatView T Q)) (seat : SeatView T Q) (slots : List (Vec T))
+      → seat_view mine v ≡ seat → IsGathering mail all [] seat → IsSettled sound problem v slots
       → (h : T → ℕ) → sum_by h (given_by all) ≡ sum_by h (got_by all) + sum_by h (tasks_in slots)
   bags mail mine problem v all seat slots view gathered settled h =
       let a = gathered.given h in let b = gathered.got h in let c = settled.bag h in
@@ -91,25 +101,33 @@ module _ {T Q : Type 0} (sound : Q → T → Type 0) where
       let f = sum_by-flat_map h (λ (s : SeatView T Q). s.given) all in let g = sum_by-flat_map h (λ (s : SeatView T Q). s.got) all in
       let t = sum_by-flat_map h (λ (x : Vec T). x.items) slots in omega (arith, a, b, c, d, e, f, g, t)
 
-  same_problem : (mail : MailId) (mine : TableId) (problem about : Q) (v : Known T Q) (all : List (SeatView T Q)) (seat : SeatView T Q) → seat_view mine v ≡ seat → IsGathering mail all [] seat → v.problem ≡ Some problem → AreFor about all → problem ≡ about
+  same_problem : (mail : MailId) (mine : TableId) (problem about : Q) (v : Known T Q) (all : List (SeatView T Q)) (seat : SeatView T Q)
+      → seat_view mine v ≡ seat → IsGathering mail all [] seat → v.problem ≡ Some problem → AreFor about all → problem ≡ about
   same_problem mail mine problem about v all seat view gathered made_for are =
       some_injective problem about (sym made_for ∙ ap (λ (s : SeatView T Q). s.problem) view ∙ (gathered.problems about are).0)
 
   -- all of it was appended
-  pub all_left : (mail : MailId) (mine : TableId) (problem : Q) (v : Known T Q) (all : List (SeatView T Q)) (seat : SeatView T Q) (slots : List (Vec T)) (before after : List T) → seat_view mine v ≡ seat → IsGathering mail all [] seat
+  pub all_left : (mail : MailId) (mine : TableId) (problem : Q) (v : Known T Q) (all : List (SeatView T Q)) (seat : SeatView T Q) (slots : List (Vec T))
+      (before after : List T) → seat_view mine v ≡ seat → IsGathering mail all [] seat
       → IsSettled sound problem v slots → after ≡ before ++ tasks_in slots → IsLeft sound all before after
   all_left mail mine problem v all seat slots before after view gathered settled appended = record {
     rest = tasks_in slots;
     appended = appended;
-    bag = record { weighs = λ h. (let a = sum_by-append h (got_by all) (tasks_in slots) in let b = bags mail mine problem v all seat slots view gathered settled h in omega (arith, a, b)) };
-    are_sound = λ about are. subst (λ p. AllByRecursion (sound p) (tasks_in slots)) (same_problem mail mine problem about v all seat view gathered settled.made_for are) settled.are_sound;
+    bag = record {
+      weighs = λ h. (let a = sum_by-append h (got_by all) (tasks_in slots) in
+          let b = bags mail mine problem v all seat slots view gathered settled h in omega (arith, a, b));
+    };
+    are_sound = λ about are. subst (λ p. AllByRecursion (sound p) (tasks_in slots))
+        (same_problem mail mine problem about v all seat view gathered settled.made_for are) settled.are_sound;
   }
 
   -- what the first slots had was appended
-  pub part_left : (mail : MailId) (mine : TableId) (problem : Q) (v : Known T Q) (all : List (SeatView T Q)) (seat : SeatView T Q) (slots : List (Vec T)) (before after : List T) → seat_view mine v ≡ seat → IsGathering mail all [] seat
+  pub part_left : (mail : MailId) (mine : TableId) (problem : Q) (v : Known T Q) (all : List (SeatView T Q)) (seat : SeatView T Q) (slots : List (Vec T))
+      (before after : List T) → seat_view mine v ≡ seat → IsGathering mail all [] seat
       → IsSettled sound problem v slots → (count : ℕ) × (after ≡ before ++ tasks_in (take count slots)) → IsPartLeft sound all before after
   part_left mail mine problem v all seat slots before after view gathered settled (count, appended) =
-      let parts : tasks_in slots ≡ tasks_in (take count slots) ++ tasks_in (drop count slots) = ap (λ l. tasks_in l) (sym (take-append-drop count slots)) ∙ flat_map-append (λ (x : Vec T). x.items) (take count slots) (drop count slots) in
+      let parts : tasks_in slots ≡ tasks_in (take count slots) ++ tasks_in (drop count slots) = ap (λ l. tasks_in l) (sym (take-append-drop count slots))
+      ∙ flat_map-append (λ (x : Vec T). x.items) (take count slots) (drop count slots) in
       record {
         rest = tasks_in (take count slots);
         appended = appended;
@@ -118,12 +136,15 @@ module _ {T Q : Type 0} (sound : Q → T → Type 0) where
               (let a = sum_by-append h (got_by all) (tasks_in (take count slots)) in let b = bags mail mine problem v all seat slots view gathered settled h in
               let c = ap (sum_by h) parts in let d = sum_by-append h (tasks_in (take count slots)) (tasks_in (drop count slots)) in omega (arith, a, b, c, d));
         };
-        are_sound = λ about are. subst (λ p. AllByRecursion (sound p) (tasks_in (take count slots))) (same_problem mail mine problem about v all seat view gathered settled.made_for are)
-            (all_parts (sound problem) (tasks_in (take count slots)) (tasks_in (drop count slots)) (subst (λ l. AllByRecursion (sound problem) l) parts settled.are_sound)).0;
+        are_sound = λ about are. subst (λ p. AllByRecursion (sound p) (tasks_in (take count slots)))
+            (same_problem mail mine problem about v all seat view gathered settled.made_for are)
+            (all_parts (sound problem) (tasks_in (take count slots)) (tasks_in (drop count slots))
+            (subst (λ l. AllByRecursion (sound problem) l) parts settled.are_sound)).0;
       }
 
 -- the seat that took in all others has the whole share
-pub is_whole : {T Q : Type 0} (mine of : TableId) (workers : ℕ) (v : Known T Q) (m : MailId) (all : List (SeatView T Q)) (seat : SeatView T Q) → seat_view mine v ≡ seat → record { table = of; workers = workers } ≡ m → IsGathering m all [] seat
+pub is_whole : {T Q : Type 0} (mine of : TableId) (workers : ℕ) (v : Known T Q) (m : MailId) (all : List (SeatView T Q)) (seat : SeatView T Q)
+    → seat_view mine v ≡ seat → record { table = of; workers = workers } ≡ m → IsGathering m all [] seat
     → sum_by (λ (s : SeatView T Q). s.share) all ≡ m.workers → v.share ≡ workers
 is_whole {T} {Q} mine of workers v m all seat view self gathered whole =
     let a = gathered.shares in let b = ap (λ (s : SeatView T Q). s.share) view in let c = ap (λ (i : MailId). i.workers) self in omega (arith, a, b, c, whole)

@@ -156,6 +156,6 @@ module _ {T Q : Type 0} where
           here k less (yes same) = at_own k same
           here k less (no other) = at_other k less other
 
-pub on_empty : {P N K : Type 0} {A B : Type 0} (r : Take P N K) → (A → B) → OnEmpty r A → OnEmpty r B
+pub on_empty : {P T : Type 0} {A B : Type 0} (r : Take P T) → (A → B) → OnEmpty r A → OnEmpty r B
 on_empty (Taken task) f a = tt
 on_empty Empty f a = f a

@@ -42,7 +42,7 @@ pub flat-bounded : (width : ℕ) → IsBounded (IsOfFlat width) (children_of wid
 flat-bounded width = IsBounded-from_steps (flat-ranked width) (λ n s. omega arith) (λ n s. all-same (children_of width n)) (λ n s. omega arith)
 
 pub flat-countable : (width n : ℕ) → IsOfFlat width n → length (children_of width n) + 1 < 2 ^ 32
-flat-countable width zero s = omega (arith, s.0, length-replicate width 1)
+flat-countable width zero s = omega (arith, s.0, length-replicate {A = ℕ} width 1)
 flat-countable width (suc n) s = omega arith
 
 pub flat-root_rank : rank_of 0 ≤ 65535

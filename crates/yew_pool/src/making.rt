@@ -8,10 +8,11 @@ ghost use Rattle.yew_pool.specs.Rule.{left_of, right_of, spent};
 use crate::places::{OwnDeque, Place, Thief};
 use crate::pool::{PoolPass, Room};
 use std::alloc::Global;
-use yew_laws::{Memory, Problem};
+use yew_laws::Memory;
+use yew_tasks::Carried;
 
 /// The deques, each with the whole share of it, and a handle of each for the pool.
-pub fn make_deques<P: Problem>(
+pub fn make_deques<P: Carried>(
     alloc: Global,
     problem: &P,
     passes: usize,
@@ -33,7 +34,7 @@ pub fn make_deques<P: Problem>(
 }
 
 // A place at the deque with a number, for the pass with a number: the owner's has no share.
-fn make_place<P: Problem>(
+fn make_place<P: Carried>(
     own: &mut OwnDeque<P>,
     at: usize,
     number: usize,
@@ -51,7 +52,7 @@ fn make_place<P: Problem>(
 }
 
 // The places of the pass with this number, one at each deque in order.
-fn make_row<P: Problem>(
+fn make_row<P: Carried>(
     alloc: Global,
     problem: &P,
     owns: &mut Vec<OwnDeque<P>>,
@@ -73,7 +74,7 @@ fn make_row<P: Problem>(
 }
 
 /// The places of all passes, a row for each.
-pub fn make_rows<P: Problem>(
+pub fn make_rows<P: Carried>(
     alloc: Global,
     problem: &P,
     owns: &mut Vec<OwnDeque<P>>,
@@ -90,7 +91,7 @@ pub fn make_rows<P: Problem>(
 }
 
 /// The passes, each of an owner and a row of places.
-pub fn make_passes<P: Problem>(
+pub fn make_passes<P: Carried>(
     alloc: Global,
     problem: &P,
     mut owns: Vec<OwnDeque<P>>,

@@ -5,7 +5,7 @@ ghost use Rattle.crossbeam_deque.specs.Steals.{MatchSteal};
 ghost use Rattle.yew_laws.specs.Bag.{PartOfBag};
 ghost use Rattle.yew_pool.specs.Places.{once_more};
 ghost use Rattle.yew_pool.specs.Rule.{Balances, unopened, started, has_put, has_taken, left_of, right_of, both_of, spent};
-ghost use Rattle.yew_pool.specs.Tasks.{is_task, IsSoundFor};
+ghost use Rattle.yew_pool.specs.Tasks.{IsSoundFor};
 
 use crate::rule::{
     About, Conserves, Hand, Idle, Looks, OneOff, Puts, Starts, Steals, Takes, Together, Wholly,
@@ -14,26 +14,26 @@ use crossbeam_deque::{Pass, Steal, Stealer, Worker};
 use std::alloc::Global;
 use std::marker::{Brand, Model};
 use std::sync::Wait;
-use yew_laws::{Memory, Problem, Task};
+use yew_laws::Memory;
+use yew_tasks::Carried;
 
-type Owner<P> = Worker<Task<P>, Global, Hand<Task<P>, P>, Conserves<P>>;
+type Owner<P> = Worker<<P as Carried>::Task, Global, Hand<<P as Carried>::Task, P>, Conserves<P>>;
 
-pub type Thief<P> = Stealer<Task<P>, Global, Hand<Task<P>, P>, Conserves<P>>;
+pub type Thief<P> = Stealer<<P as Carried>::Task, Global, Hand<<P as Carried>::Task, P>, Conserves<P>>;
 
 /// The deque of a pass, which the pass owns. Contracts see which deque it is and what its owner knows. How often the
 /// owner finds it empty is counted at the place that the pass has there.
 #[derive(Drop)]
-pub struct OwnDeque<P: Problem> {
+pub struct OwnDeque<P: Carried> {
     worker: Owner<P>,
 }
 
-impl<P: Problem> Model for OwnDeque<P> {
+impl<P: Carried> Model for OwnDeque<P> {
     ghost use Rattle.std.specs.Prelude.{◌≡◌, ◌<◌};
     ghost use Rattle.crossbeam_deque.specs.Handles.{worker_deque, worker_flavor, worker_view};
-    ghost use Rattle.yew_laws.specs.declared.problem.Task.{Task};
     ghost use Rattle.yew_pool.specs.Places.{PlaceView};
 
-    ghost Value = { PlaceView (Task P P.Node P.Kids) P };
+    ghost Value = { PlaceView P.Task P };
 
     ghost view = { λ s. record { deque = worker_deque s.worker; hand = worker_view s.worker; found_empty = 0 } };
 
@@ -43,21 +43,20 @@ impl<P: Problem> Model for OwnDeque<P> {
 /// A place at a deque, from which it steals. Contracts see which deque it is, what the place knows, and how often the
 /// deque was found empty from here, up to the end of the type.
 #[derive(Drop)]
-pub struct Place<P: Problem> {
+pub struct Place<P: Carried> {
     stealer: Thief<P>,
-    pass: Pass<Task<P>, Hand<Task<P>, P>, Global>,
+    pass: Pass<P::Task, Hand<P::Task, P>, Global>,
     // Raised by a step alone that finds the deque empty.
     found_empty: u64,
 }
 
-impl<P: Problem> Model for Place<P> {
+impl<P: Carried> Model for Place<P> {
     ghost use Rattle.std.specs.Prelude.{◌≡◌};
     ghost use Rattle.crossbeam_deque.specs.Handles as handles;
     ghost use Rattle.crossbeam_deque.specs.Handles.{IsPassOf, stealer_deque, stealer_flavor};
-    ghost use Rattle.yew_laws.specs.declared.problem.Task.{Task};
     ghost use Rattle.yew_pool.specs.Places.{PlaceView};
 
-    ghost Value = { PlaceView (Task P P.Node P.Kids) P };
+    ghost Value = { PlaceView P.Task P };
 
     ghost view = { λ s. record { deque = stealer_deque s.stealer; hand = handles.view s.pass; found_empty = s.found_empty } };
 
@@ -65,7 +64,7 @@ impl<P: Problem> Model for Place<P> {
 }
 
 // Tells a new deque the problem and the whole share. The call picks both.
-fn start<P: Problem, J: About<P>>(worker: &mut Owner<P>, problem: &P, whole: u64)
+fn start<P: Carried, J: About<P>>(worker: &mut Owner<P>, problem: &P, whole: u64)
     requires view { worker_view worker.old ≡ unopened }
     requires about { (J.problem ≡ Some problem.now) × (J.whole ≡ whole) }
     ensures view { worker_view worker.new ≡ started whole (Some problem.now) }
@@ -76,10 +75,10 @@ fn start<P: Problem, J: About<P>>(worker: &mut Owner<P>, problem: &P, whole: u64
     worker.another::<Starts<J>>();
 }
 
-impl<P: Problem> OwnDeque<P> {
+impl<P: Carried> OwnDeque<P> {
     /// Adds a task at the back. A refusal hands the task back and changes nothing.
-    pub fn put(&mut self, task: Task<P>) -> Result<(), Task<P>>
-        requires { IsSoundFor (is_task P.Problem) self.old.hand.problem task }
+    pub fn put(&mut self, task: P::Task) -> Result<(), P::Task>
+        requires { IsSoundFor P.carries self.old.hand.problem task }
         ensures ok { OnOk result (self.new ≡ record self.old { hand = has_put self.old.hand task }) }
         ensures refused { IfErr result (λ back. (back ≡ task) × (self.new ≡ self.old)) }
     {
@@ -87,9 +86,9 @@ impl<P: Problem> OwnDeque<P> {
     }
 
     /// Takes the first task.
-    pub fn pop(&mut self) -> Option<Task<P>>
+    pub fn pop(&mut self) -> Option<P::Task>
         ensures task { IfSome result (λ task. self.new ≡ record self.old { hand = has_taken self.old.hand task }) }
-        ensures sound { IfSome result (λ task. IsSoundFor (is_task P.Problem) self.old.hand.problem task) }
+        ensures sound { IfSome result (λ task. IsSoundFor P.carries self.old.hand.problem task) }
         ensures part { IfSome result (λ task. self.old.hand.share ≡ self.old.hand.whole → PartOfBag (self.old.hand.took ++ task ∷ []) self.old.hand.put) }
         ensures none { IfNone result ((self.new ≡ self.old) × Balances self.old.hand []) }
     {
@@ -97,10 +96,10 @@ impl<P: Problem> OwnDeque<P> {
     }
 
     /// Takes the first task for a pass with a place at this deque, where a deque that is found empty is counted.
-    pub fn pop_at(&mut self, place: &mut Place<P>) -> Option<Task<P>>
+    pub fn pop_at(&mut self, place: &mut Place<P>) -> Option<P::Task>
         requires { place.old.deque ≡ self.old.deque }
         ensures task { IfSome result (λ task. (self.new ≡ record self.old { hand = has_taken self.old.hand task }) × (place.new ≡ place.old)) }
-        ensures sound { IfSome result (λ task. IsSoundFor (is_task P.Problem) self.old.hand.problem task) }
+        ensures sound { IfSome result (λ task. IsSoundFor P.carries self.old.hand.problem task) }
         ensures part { IfSome result (λ task. self.old.hand.share ≡ self.old.hand.whole → PartOfBag (self.old.hand.took ++ task ∷ []) self.old.hand.put) }
         ensures none { IfNone result ((self.new ≡ self.old) × Balances self.old.hand []) }
         ensures counted { IfNone result (place.new ≡ record place.old { found_empty = once_more place.old.found_empty }) }
@@ -203,21 +202,21 @@ impl<P: Problem> OwnDeque<P> {
     }
 }
 
-impl<P: Problem> Place<P> {
+impl<P: Carried> Place<P> {
     // One try to take the first task.
-    fn try_steal(&mut self) -> Steal<Task<P>>
+    fn try_steal(&mut self) -> Steal<P::Task>
         requires { 0 < self.old.hand.share }
-        ensures { MatchSteal result (self.new ≡ self.old) (self.new ≡ self.old) (λ task. (self.new ≡ record self.old { hand = has_taken self.old.hand task }) × IsSoundFor (is_task P.Problem) self.old.hand.problem task) }
+        ensures { MatchSteal result (self.new ≡ self.old) (self.new ≡ self.old) (λ task. (self.new ≡ record self.old { hand = has_taken self.old.hand task }) × IsSoundFor P.carries self.old.hand.problem task) }
     {
         self.stealer.steal_as::<Steals<P>>(&mut self.pass)
     }
 
     /// Takes the first task. A steal that is to be tried again is tried again, and one that finds the deque empty is
     /// counted.
-    pub fn steal<R: Wait>(&mut self, rt: &R) -> Option<Task<P>>
+    pub fn steal<R: Wait>(&mut self, rt: &R) -> Option<P::Task>
         requires { 0 < self.old.hand.share }
         ensures task { IfSome result (λ task. self.new ≡ record self.old { hand = has_taken self.old.hand task }) }
-        ensures sound { IfSome result (λ task. IsSoundFor (is_task P.Problem) self.old.hand.problem task) }
+        ensures sound { IfSome result (λ task. IsSoundFor P.carries self.old.hand.problem task) }
         ensures none { IfNone result (self.new ≡ record self.old { found_empty = once_more self.old.found_empty }) }
     {
         for _ in rt.forever() {

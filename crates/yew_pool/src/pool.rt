@@ -4,7 +4,7 @@ ghost use Rattle.yew_laws.specs.Bag.{SameBag, PartOfBag};
 ghost use Rattle.yew_pool.specs.Passes.{AreSeated, IsSeated, HasTaken, HasLooked, HasLookedRound, IsLeft, IsPartLeft, new_pass, pass_view};
 ghost use Rattle.yew_pool.specs.Places.{once_more};
 ghost use Rattle.yew_pool.specs.Takes.{IfTask, OnEmpty};
-ghost use Rattle.yew_pool.specs.Tasks.{is_task, IsSoundFor};
+ghost use Rattle.yew_pool.specs.Tasks.{IsSoundFor};
 
 use crate::closing::{empty, look_at_shares, merge, order, settle, take_apart};
 use crate::making::{make_deques, make_passes, make_rows};
@@ -12,15 +12,16 @@ use crate::places::{OwnDeque, Place, Thief};
 use std::alloc::Global;
 use std::marker::Model;
 use std::sync::Wait;
-use yew_laws::{Memory, Problem, Task};
+use yew_laws::Memory;
+use yew_tasks::Carried;
 
 /// The tasks that were put and not taken, in a deque for each pass. Contracts see which deques they are.
 #[derive(Drop)]
-pub struct Pool<P: Problem> {
+pub struct Pool<P: Carried> {
     stealers: Vec<Thief<P>>,
 }
 
-impl<P: Problem> Model for Pool<P> {
+impl<P: Carried> Model for Pool<P> {
     ghost use Rattle.std.specs.Prelude.{map};
     ghost use Rattle.crossbeam_deque.specs.Handles.{stealer_deque};
     ghost use Rattle.yew_pool.specs.Passes.{PoolId};
@@ -33,18 +34,17 @@ impl<P: Problem> Model for Pool<P> {
 /// A thread's side of the pool: the deque that it owns, and a place at each deque. Contracts see the pool, the number
 /// of the pass, its share, the problem, what it has put and taken, and how often it has found each deque empty.
 #[derive(Drop)]
-pub struct PoolPass<P: Problem> {
+pub struct PoolPass<P: Carried> {
     number: usize,
     own: OwnDeque<P>,
     places: Vec<Place<P>>,
     room: Room<P>,
 }
 
-impl<P: Problem> Model for PoolPass<P> {
-    ghost use Rattle.yew_laws.specs.declared.problem.Task.{Task};
+impl<P: Carried> Model for PoolPass<P> {
     ghost use Rattle.yew_pool.specs.Passes.{PassView, pass_view, IsSeated};
 
-    ghost Value = { PassView (Task P P.Node P.Kids) P };
+    ghost Value = { PassView P.Task P };
 
     ghost view = { λ s. pass_view s.number s.own s.places.items };
 
@@ -54,12 +54,12 @@ impl<P: Problem> Model for PoolPass<P> {
 /// Room for the deques and the places of all passes, so that `close` takes no memory to take the passes apart.
 /// Contracts see for how many passes it is.
 #[derive(Drop)]
-pub(crate) struct Room<P: Problem> {
+pub(crate) struct Room<P: Carried> {
     owns: Vec<OwnDeque<P>>,
     rows: Vec<Vec<Place<P>>>,
 }
 
-impl<P: Problem> Model for Room<P> {
+impl<P: Carried> Model for Room<P> {
     ghost use Rattle.std.specs.Prelude.{◌≡◌, ℕ, [], min};
     ghost use Rattle.std.specs.Vec.{vec_capacity};
 
@@ -70,7 +70,7 @@ impl<P: Problem> Model for Room<P> {
     ghost invariant = { λ s. (s.owns.items ≡ []) × (s.rows.items ≡ []) };
 }
 
-impl<P: Problem> Room<P> {
+impl<P: Carried> Room<P> {
     pub(crate) fn new(alloc: Global, passes: usize) -> Result<Room<P>, Memory>
         ensures { IfOk result (λ room. room ≡ passes) }
     {
@@ -90,18 +90,18 @@ impl<P: Problem> Room<P> {
 
 /// There was no memory. The task comes back.
 #[derive(Drop)]
-pub struct Refused<P: Problem> {
-    pub task: Task<P>,
+pub struct Refused<P: Carried> {
+    pub task: P::Task,
 }
 
 /// A task, or the answer that each deque was found empty.
 #[derive(Drop)]
-pub enum Take<P: Problem> {
-    Task(Task<P>),
+pub enum Take<P: Carried> {
+    Task(P::Task),
     Empty,
 }
 
-impl<P: Problem> PoolPass<P> {
+impl<P: Carried> PoolPass<P> {
     // A new pass, of a deque and the places at all deques.
     pub(crate) fn seated(
         number: usize,
@@ -172,8 +172,8 @@ impl<P: Problem> PoolPass<P> {
     }
 
     // Pops the own deque.
-    fn pop(&mut self) -> Option<Task<P>>
-        ensures task { IfSome result (λ task. HasTaken self.old task self.new × IsSoundFor (is_task P.Problem) self.old.problem task) }
+    fn pop(&mut self) -> Option<P::Task>
+        ensures task { IfSome result (λ task. HasTaken self.old task self.new × IsSoundFor P.carries self.old.problem task) }
         ensures none { IfNone result (HasLooked self.old.number (self.old.number + 1) self.old self.new) }
         ensures counts { length self.old.found_empty ≡ length self.old.pool.deques }
         ensures none_left { IfNone result (length self.old.pool.deques ≡ 1 → SameBag self.old.put self.old.took) }
@@ -184,10 +184,10 @@ impl<P: Problem> PoolPass<P> {
     }
 
     // Steals from the deque with another number.
-    fn steal<R: Wait>(&mut self, rt: &R, number: usize) -> Option<Task<P>>
+    fn steal<R: Wait>(&mut self, rt: &R, number: usize) -> Option<P::Task>
         requires within { number < length self.old.pool.deques }
         requires other { number ≢ self.old.number }
-        ensures task { IfSome result (λ task. HasTaken self.old task self.new × IsSoundFor (is_task P.Problem) self.old.problem task) }
+        ensures task { IfSome result (λ task. HasTaken self.old task self.new × IsSoundFor P.carries self.old.problem task) }
         ensures none { IfNone result (HasLooked number (number + 1) self.old self.new) }
     {
         self.places[number].steal(rt)
@@ -198,7 +198,7 @@ impl<P: Problem> PoolPass<P> {
         requires within { end ≤ length self.old.pool.deques }
         requires other { (self.old.number < first) ⊎ (end ≤ self.old.number) }
         requires order { first ≤ end }
-        ensures task { IfTask result (λ task. (first < end) × HasTaken self.old task self.new × IsSoundFor (is_task P.Problem) self.old.problem task) }
+        ensures task { IfTask result (λ task. (first < end) × HasTaken self.old task self.new × IsSoundFor P.carries self.old.problem task) }
         ensures empty { OnEmpty result (HasLooked first end self.old self.new) }
     {
         for number in first..end {
@@ -210,7 +210,7 @@ impl<P: Problem> PoolPass<P> {
     }
 }
 
-impl<P: Problem> Pool<P> {
+impl<P: Carried> Pool<P> {
     /// Makes a pool for a problem and its passes, 1 to 64, of which pass k stands at place k-1.
     ///
     /// # Errors
@@ -232,9 +232,9 @@ impl<P: Problem> Pool<P> {
     }
 
     /// Adds a task to the deque of the pass. A refusal hands the task back and changes nothing.
-    pub fn put(&self, pass: &mut PoolPass<P>, task: Task<P>) -> Result<(), Refused<P>>
+    pub fn put(&self, pass: &mut PoolPass<P>, task: P::Task) -> Result<(), Refused<P>>
         requires pool { pass.old.pool ≡ self.now }
-        requires sound { IsSoundFor (is_task P.Problem) pass.old.problem task }
+        requires sound { IsSoundFor P.carries pass.old.problem task }
         ensures ok { OnOk result (pass.new ≡ record pass.old { put = pass.old.put ++ task ∷ [] }) }
         ensures refused { IfErr result (λ r. (r.task ≡ task) × (pass.new ≡ pass.old)) }
     {
@@ -249,7 +249,7 @@ impl<P: Problem> Pool<P> {
     /// deque was empty at a step of this call, which the pass counts.
     pub fn take<R: Wait>(&self, rt: &R, pass: &mut PoolPass<P>) -> Take<P>
         requires { pass.old.pool ≡ self.now }
-        ensures task { IfTask result (λ task. HasTaken pass.old task pass.new × IsSoundFor (is_task P.Problem) pass.old.problem task) }
+        ensures task { IfTask result (λ task. HasTaken pass.old task pass.new × IsSoundFor P.carries pass.old.problem task) }
         ensures empty { OnEmpty result (pass.new ≡ record pass.old { found_empty = map once_more pass.old.found_empty }) }
         ensures counts { length pass.new.found_empty ≡ length self.now.deques }
 
@@ -266,7 +266,7 @@ impl<P: Problem> Pool<P> {
     // Tries each other deque in turn.
     fn steal<R: Wait>(&self, rt: &R, pass: &mut PoolPass<P>) -> Take<P>
         requires { pass.old.pool ≡ self.now }
-        ensures task { IfTask result (λ task. (1 < length self.now.deques) × HasTaken pass.old task pass.new × IsSoundFor (is_task P.Problem) pass.old.problem task) }
+        ensures task { IfTask result (λ task. (1 < length self.now.deques) × HasTaken pass.old task pass.new × IsSoundFor P.carries pass.old.problem task) }
         ensures empty { OnEmpty result (HasLookedRound pass.old pass.new) }
     {
         let passes = self.stealers.len();
@@ -281,11 +281,11 @@ impl<P: Problem> Pool<P> {
     ///
     /// # Errors
     /// `Memory` where `left` could not grow. It has some of the tasks then, and the others are dropped.
-    pub fn close(self, mut passes: Vec<PoolPass<P>>, left: &mut Vec<Task<P>>) -> Result<(), Memory>
+    pub fn close(self, mut passes: Vec<PoolPass<P>>, left: &mut Vec<P::Task>) -> Result<(), Memory>
         requires pool { All (λ pass. pass.pool ≡ self) passes.items }
         requires all { sum_by (λ pass. pass.share) passes.items ≡ length self.deques }
-        ensures ok { OnOk result (IsLeft (is_task P.Problem) passes.items left.old.items left.new.items) }
-        ensures memory { OnErr result (IsPartLeft (is_task P.Problem) passes.items left.old.items left.new.items) }
+        ensures ok { OnOk result (IsLeft P.carries passes.items left.old.items left.new.items) }
+        ensures memory { OnErr result (IsPartLeft P.carries passes.items left.old.items left.new.items) }
     {
         if passes.is_empty() {
             return Ok(());

@@ -4,7 +4,7 @@ ghost use Rattle.std.specs.Prelude.{◌≡◌, ◌++◌, ⊤};
 use crossbeam_deque::protocol::{Join, Lesson, Outcome, Protocol, Split};
 use std::collections::LinkedList;
 use std::marker::{Brand, PhantomData};
-use yew_laws::{Problem, Task};
+use yew_tasks::Carried;
 
 /// What a place knows: its share of the deque, what it has put and taken, and the problem, once it is told. No value
 /// of it is made.
@@ -23,11 +23,10 @@ pub struct Conserves<P> {
     problem: PhantomData<P>,
 }
 
-impl<P: Problem> Protocol<Task<P>, Hand<Task<P>, P>> for Conserves<P> {
+impl<P: Carried> Protocol<P::Task, Hand<P::Task, P>> for Conserves<P> {
     ghost use Rattle.yew_pool.specs.Rule.{Conserved, unopened, spent};
-    ghost use Rattle.yew_pool.specs.Tasks.{is_task};
 
-    ghost holds = { Conserved (is_task P.Problem) };
+    ghost holds = { Conserved P.carries };
 
     ghost first = { unopened };
 
@@ -48,13 +47,12 @@ pub struct Takes<P> {
     problem: PhantomData<P>,
 }
 
-impl<P: Problem> Outcome<Task<P>, Hand<Task<P>, P>> for Takes<P> {
+impl<P: Carried> Outcome<P::Task, Hand<P::Task, P>> for Takes<P> {
     ghost use Rattle.yew_pool.specs.Rule as rule;
     ghost use Rattle.yew_pool.specs.Rule.{Balances};
-    ghost use Rattle.yew_pool.specs.Tasks.{is_task};
     ghost use Rattle.std.specs.Prelude.{[]};
 
-    ghost then = { rule.Takes (is_task P.Problem) };
+    ghost then = { rule.Takes P.carries };
 
     ghost empty = { λ v. Balances v [] };
 }
@@ -64,11 +62,10 @@ pub struct Steals<P> {
     problem: PhantomData<P>,
 }
 
-impl<P: Problem> Outcome<Task<P>, Hand<Task<P>, P>> for Steals<P> {
+impl<P: Carried> Outcome<P::Task, Hand<P::Task, P>> for Steals<P> {
     ghost use Rattle.yew_pool.specs.Rule as rule;
-    ghost use Rattle.yew_pool.specs.Tasks.{is_task};
 
-    ghost then = { rule.Takes (is_task P.Problem) };
+    ghost then = { rule.Takes P.carries };
 }
 
 /// A look that changes nothing.

@@ -1,0 +1,9 @@
+use Rattle.yew_mail.specs.Players.{IsSeatOf}
+use Rattle.yew_mail.proofs.Players.{both_lists}
+use Rattle.yew_mail.proofs.tests.together.Goals as goal
+
+pub returns : goal.returns
+returns g c =
+    both_lists c.in_ok-left.left.items c.in_ok-right.right.items c.append.new.self.items _ _
+    (λ w. IsSeatOf c.args.mail.now c.args.problem.now w.number w.asks w.seat)
+    c.in_ok-append.ensures.items (rw c.in_ok-left.was at c.requires.left) (rw c.in_ok-right.was at c.requires.right)
