@@ -1,4 +1,5 @@
 pub mod BestFinds
+pub mod CrewClosed
 pub mod CrewEnds
 pub mod CrewWork
 pub mod Finished
@@ -11,11 +12,13 @@ pub mod OpenSeating
 pub mod OpenStepping
 pub mod OpenTies
 pub mod Putting
+pub mod RestEnds
 pub mod Rows
 pub mod SegmentSums
 pub mod SpawnStep
 pub mod WalkedParts
 pub mod WholeAnswers
 pub mod WorkDone
+pub mod WorkEnds
 pub mod WorkSteps
 pub mod WorkTurns

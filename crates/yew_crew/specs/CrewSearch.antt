@@ -14,7 +14,7 @@ use Rattle.yew_log.specs.Totals.{no_totals, totals_after}
 use Rattle.yew_log.specs.WholeSearch.{AreLogs}
 use Rattle.yew_walk.specs.declared.fault.SearchFault.{SearchFault}
 use Rattle.yew_walk.specs.declared.fault.SearchFault.TheVariants.{Memory, AuditFull, TooManyTasks}
-use Rattle.yew_walk.specs.LogViews.{LogView, IsWithin}
+use Rattle.yew_walk.specs.LogViews.{LogView}
 
 -- the gap that a search of a kind permits: no kind permits one yet
 abbrev pub gap_of : Kind → ℕ
@@ -68,7 +68,6 @@ pub record IsLogOf (number : ℕ) (notes : List Note) (log : LogView) : Type 0 w
   pub told : IfSome log.told (λ entries. entries ≡ notes)
   pub totals_are : log.totals ≡ totals_after no_totals notes
   pub number_is : log.number ≡ number
-  pub within : IsWithin log.told
 
 -- these are the logs of the workers from this number on, in order
 abbrev pub AreLogsOf : ℕ → List (List Note) → List LogView → Type 0

@@ -11,6 +11,8 @@ mod open_view;
 mod spawn;
 mod spawning;
 mod station;
+#[cfg(test)]
+mod tests;
 
 pub use coord::Coord;
 pub use hands::gather;
