@@ -67,7 +67,7 @@ module _ {S R N : Type 0} (s : Searched S R N) (workers : ℕ) where
   abbrev whole : List (Finish S R N) → Group N S
   whole fs = all_of s.join s.none fs
 
-  joined-visits : (number : ℕ) (fs : List (Finish S R N)) → AreFinished number fs → visits (joined (notes_of fs)) ≡ (whole fs).visits
+  pub joined-visits : (number : ℕ) (fs : List (Finish S R N)) → AreFinished number fs → visits (joined (notes_of fs)) ≡ (whole fs).visits
   joined-visits number [] are = refl
   joined-visits number (f ∷ fs) are = flat_map-append visit_in f.notes (joined (notes_of fs)) ∙ ap₂ ◌++◌ (sym are.0.visits_are) (joined-visits (suc number) fs are.1)
 

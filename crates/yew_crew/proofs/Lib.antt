@@ -18,6 +18,7 @@ pub mod SegmentSums
 pub mod SpawnStep
 pub mod WalkedParts
 pub mod WholeAnswers
+pub mod WholeCrew
 pub mod WorkDone
 pub mod WorkEnds
 pub mod WorkSteps
