@@ -42,6 +42,38 @@ same-contains xs ys x bag c =
     let w = contains-has_weight ◌==◌ nat_same nat-is xs x c in
     let e = bag.weighs (λ y. cond (x == y) 1 0) in contains-weighs ◌==◌ nat_same nat-is ys x (omega arith)
 
+module _ {N : Type 0} (t : SearchTree N) {sound : N → Type 0} (ranked : IsRanked sound t.children t.rank) (bounded : IsBounded sound t.children t.worth t.bound) (root_sound : sound t.root) where
+  -- a cut node is at or below itself
+  pub cut-there : (cs : List Judgement) → AllByRecursion (λ (c : Judgement). bound_at t c.path ≡ Some c.value) cs → AllByRecursion (λ c. 0 < occurs c (below t c)) (paths cs)
+  cut-there [] b = tt
+  cut-there (c ∷ cs) b = (own (at_path t c.path) refl b.0, cut-there cs b.1)
+    where
+      own : (found : Option N) → at_path t c.path ≡ found → option_map t.bound found ≡ Some c.value → 0 < occurs c.path (below t c.path)
+      own None e w = absurd (none-some c.value w)
+      own (Some n) e w =
+          let u = below-unfolds t ranked c.path n e (at_path-sound t ranked bounded root_sound c.path n e) in
+          let k = ap (occurs c.path) u in
+          let l = sum_by-cons (only c.path) c.path (flat_map (below t) (numbered c.path 0 (t.children n))) in
+          let o = only-itself c.path in omega arith
+
+  pub own-below : (path c : List ℕ) → 0 < occurs c (below t c) → only path c ≤ occurs path (below t c)
+  own-below path c there = by (is_path path c) refl
+    where
+      by : (b : Bool) → is_path path c ≡ b → only path c ≤ occurs path (below t c)
+      by true e =
+          let same : path ≡ c = is_path-is path c e in
+          let h = subst (λ p. 0 < occurs p (below t c)) (sym same) there in
+          let k : ◌≡◌ {A = ℕ} (only path c) 1 = ap (λ b. cond b 1 0) e in omega arith
+      by false e = let k : ◌≡◌ {A = ℕ} (only path c) 0 = ap (λ b. cond b 1 0) e in omega arith
+
+  pub cut-below : (cs : List (List ℕ)) (path : List ℕ) → AllByRecursion (λ c. 0 < occurs c (below t c)) cs → occurs path cs ≤ occurs path (flat_map (below t) cs)
+  cut-below [] path a = omega arith
+  cut-below (c ∷ cs) path a =
+      let r = cut-below cs path a.1 in
+      let o = own-below path c a.0 in
+      let x = sum_by-cons (only path) c cs in
+      let y = sum_by-append (only path) (below t c) (flat_map (below t) cs) in omega arith
+
 module _ {N S : Type 0} (t : SearchTree N) (gap : ℕ) (join : S → S → S) (none : S) (of : N → ℕ → S) where
   -- the first worker, the others, and what the caller walked in the first one's place
   pub closed-all : (first others rest : Group N S) → SameBag ((first.took ++ others.took) ++ rest.took) ([] ∷ (first.put ++ others.put)) → SameBag ((first.got ++ others.got) ++ rest.got) (first.given ++ others.given) → rest.put ≡ [] → rest.given ≡ []
@@ -61,37 +93,6 @@ module _ {N S : Type 0} (t : SearchTree N) (gap : ℕ) (join : S → S → S) (n
       weaker (x ∷ xs) f a = (f x a.0, weaker xs f a.1)
 
   module _ {sound : N → Type 0} (ranked : IsRanked sound t.children t.rank) (bounded : IsBounded sound t.children t.worth t.bound) (root_sound : sound t.root) where
-    -- a cut node is at or below itself
-    cut-there : (cs : List Judgement) → AllByRecursion (λ (c : Judgement). bound_at t c.path ≡ Some c.value) cs → AllByRecursion (λ c. 0 < occurs c (below t c)) (paths cs)
-    cut-there [] b = tt
-    cut-there (c ∷ cs) b = (own (at_path t c.path) refl b.0, cut-there cs b.1)
-      where
-        own : (found : Option N) → at_path t c.path ≡ found → option_map t.bound found ≡ Some c.value → 0 < occurs c.path (below t c.path)
-        own None e w = absurd (none-some c.value w)
-        own (Some n) e w =
-            let u = below-unfolds t ranked c.path n e (at_path-sound t ranked bounded root_sound c.path n e) in
-            let k = ap (occurs c.path) u in
-            let l = sum_by-cons (only c.path) c.path (flat_map (below t) (numbered c.path 0 (t.children n))) in
-            let o = only-itself c.path in omega arith
-
-    own-below : (path c : List ℕ) → 0 < occurs c (below t c) → only path c ≤ occurs path (below t c)
-    own-below path c there = by (is_path path c) refl
-      where
-        by : (b : Bool) → is_path path c ≡ b → only path c ≤ occurs path (below t c)
-        by true e =
-            let same : path ≡ c = is_path-is path c e in
-            let h = subst (λ p. 0 < occurs p (below t c)) (sym same) there in
-            let k : ◌≡◌ {A = ℕ} (only path c) 1 = ap (λ b. cond b 1 0) e in omega arith
-        by false e = let k : ◌≡◌ {A = ℕ} (only path c) 0 = ap (λ b. cond b 1 0) e in omega arith
-
-    cut-below : (cs : List (List ℕ)) (path : List ℕ) → AllByRecursion (λ c. 0 < occurs c (below t c)) cs → occurs path cs ≤ occurs path (flat_map (below t) cs)
-    cut-below [] path a = omega arith
-    cut-below (c ∷ cs) path a =
-        let r = cut-below cs path a.1 in
-        let o = own-below path c a.0 in
-        let x = sum_by-cons (only path) c cs in
-        let y = sum_by-append (only path) (below t c) (flat_map (below t) cs) in omega arith
-
     -- no task is taken twice once all is closed: each was visited or cut, and no path is so twice
     pub taken-once : (g : Group N S) → IsBalanced t gap join none of g → IsClosed g → (path : List ℕ) → occurs path (taken g) ≤ 1
     taken-once g balanced closed path =
@@ -99,7 +100,7 @@ module _ {N S : Type 0} (t : SearchTree N) (gap : ℕ) (join : S → S → S) (n
         let once = cover-once t ranked root_sound (paths g.visits) (paths g.cuts) cover path in
         let part = balanced.walked.weighs (only path) in
         let split = sum_by-append (only path) (paths g.visits) (paths g.cuts) in
-        let low = cut-below (paths g.cuts) path (cut-there g.cuts balanced.bounds) in omega arith
+        let low = cut-below t ranked bounded root_sound (paths g.cuts) path (cut-there t ranked bounded root_sound g.cuts balanced.bounds) in omega arith
 
     -- so where a worker took the root's task, the caller was left none that is the root's
     pub left-below : (first others rest : Group N S) → IsBalanced t gap join none of (together join (together join first rest) others) → IsClosed (together join (together join first rest) others)

@@ -8,6 +8,7 @@ pub mod GroupLaws
 pub mod Joins
 pub mod LookSteps
 pub mod NearBest
+pub mod OnceOnly
 pub mod OpenSeating
 pub mod OpenStepping
 pub mod OpenTies
