@@ -3,6 +3,7 @@ pub mod CrewClosed
 pub mod CrewEnds
 pub mod CrewWork
 pub mod Finished
+pub mod FullAudits
 pub mod Gathering
 pub mod GroupLaws
 pub mod Joins

@@ -63,6 +63,14 @@ ended-visited path before (n ∷ ns) at more = by (occurs path (ended_in n)) ref
         let g = ap (occurs path) (map-append (λ (j : Judgement). j.path) (visits before) (visits (n ∷ ns))) in
         let h = sum_by-append (only path) (visited_paths before) (visited_paths (n ∷ ns)) in omega arith
 
+-- a worker's entries are segments of tasks that it took, and what it sent was noted
+pub record IsDoing {N : Type 0} (t : SearchTree N) (d : Doing) : Type 0 where
+  pub segments : List Segment
+  pub cut_up : d.notes ≡ entries segments
+  pub each : AllByRecursion (IsBroken t) segments
+  pub taken_are : PartOfBag (taken_paths d.notes) d.took
+  pub sent_are : PartOfBag d.sent (sent_paths d.notes)
+
 module _ {N : Type 0} (t : SearchTree N) {sound : N → Type 0} (ranked : IsRanked sound t.children t.rank) (bounded : IsBounded sound t.children t.worth t.bound) (root_sound : sound t.root) where
   -- how often a path lies at or below a task
   abbrev reach : List ℕ → List ℕ → ℕ
@@ -189,14 +197,6 @@ module _ {N : Type 0} (t : SearchTree N) {sound : N → Type 0} (ranked : IsRank
       let ends = parts (only path) ended_in s ss in
       (here.0 + later.0, record { within = omega arith; strict_within = omega arith; of_taken = omega arith; of_judged = omega arith; of_ended = omega arith; sent_is = omega arith })
 
-  -- a worker's entries are segments of tasks that it took, and what it sent was noted
-  pub record IsDoing (d : Doing) : Type 0 where
-    pub segments : List Segment
-    pub cut_up : d.notes ≡ entries segments
-    pub each : AllByRecursion (IsBroken t) segments
-    pub taken_are : PartOfBag (taken_paths d.notes) d.took
-    pub sent_are : PartOfBag d.sent (sent_paths d.notes)
-
   abbrev noted_sent : List Doing → List (List ℕ)
   noted_sent ds = flat_map (λ (d : Doing). sent_paths d.notes) ds
 
@@ -218,7 +218,7 @@ module _ {N : Type 0} (t : SearchTree N) {sound : N → Type 0} (ranked : IsRank
       let k = each.0.0 in let l = each.0.1 in let m = each.0.2 in let n = each.0.3 in
       ((omega arith, omega arith, omega arith, omega arith), few-more path held sent held' sent' a b ds each.1)
 
-  all-held : (path : List ℕ) (ds : List Doing) → AllByRecursion IsDoing ds → (held : ℕ) × AreHeld path ds held
+  all-held : (path : List ℕ) (ds : List Doing) → AllByRecursion (IsDoing t) ds → (held : ℕ) × AreHeld path ds held
   all-held path [] are = (0, record { within = omega arith; strict_within = omega arith; sent_is = refl; sent_reach = omega arith; sent_strict = omega arith; each = tt })
   all-held path (d ∷ ds) are =
       let own : (held : ℕ) × IsLogHeld path d.notes held = subst (λ ns. (held : ℕ) × IsLogHeld path ns held) (sym are.0.cut_up) (log-held path are.0.segments are.0.each) in
@@ -242,7 +242,7 @@ module _ {N : Type 0} (t : SearchTree N) {sound : N → Type 0} (ranked : IsRank
       })
 
   -- no path stands twice in the entries of one kind of one worker, where all that was taken is the root's task and what was sent
-  few-ones : (path : List ℕ) (ds : List Doing) → AllByRecursion IsDoing ds → PartOfBag (all_took ds) ([] ∷ all_sent ds) → AllByRecursion (Few path 1 1) ds
+  few-ones : (path : List ℕ) (ds : List Doing) → AllByRecursion (IsDoing t) ds → PartOfBag (all_took ds) ([] ∷ all_sent ds) → AllByRecursion (Few path 1 1) ds
   few-ones path ds are part =
       let all = all-held path ds are in let k = all.1 in
       let within = k.within in let strict_within = k.strict_within in let sent_is = k.sent_is in let sent_reach = k.sent_reach in let sent_strict = k.sent_strict in
@@ -251,7 +251,7 @@ module _ {N : Type 0} (t : SearchTree N) {sound : N → Type 0} (ranked : IsRank
       let a = sum_by-cons (reach path) [] (all_sent ds) in let b = sum_by-cons (strict path) [] (all_sent ds) in
       few-more path all.0 (occurs path (noted_sent ds)) 1 1 (omega arith) (omega arith) ds k.each
 
-  pub once-only : (ds : List Doing) → AllByRecursion IsDoing ds → PartOfBag (all_took ds) ([] ∷ all_sent ds) → AllByRecursion (λ (d : Doing). OneOfAKind d.notes) ds
+  pub once-only : (ds : List Doing) → AllByRecursion (IsDoing t) ds → PartOfBag (all_took ds) ([] ∷ all_sent ds) → AllByRecursion (λ (d : Doing). OneOfAKind d.notes) ds
   once-only ds are part = by ds (λ path. few-ones path ds are part)
     where
       by : (ds : List Doing) → ((path : List ℕ) → AllByRecursion (Few path 1 1) ds) → AllByRecursion (λ (d : Doing). OneOfAKind d.notes) ds
