@@ -1,18 +1,15 @@
 -- What a hand names: the best of its visits.
-use Rattle.std.proofs.Common.{◌≡◌, ℕ, ◌<◌, ◌≤◌, ◌⊎◌, Bool, true, false, List, [], ◌∷◌, ◌++◌, ◌∙◌, Option, Some, None, max, nat_lt, if◌then◌else◌, refl, sym, ap, subst, arith, inl, inr, ⊎_elim, append_assoc}
-use Rattle.std.specs.List.{AllByRecursion, Contains}
-use Rattle.std.proofs.lemmas.List.{map-append}
-use Rattle.std.proofs.lemmas.List.Elements.{Contains-append_left, Contains-append_right}
+use Rattle.std.proofs.Common.{◌≡◌, ℕ, ◌<◌, ◌⊎◌, Bool, true, false, List, [], ◌∷◌, ◌++◌, ◌∙◌, Some, None, max, nat_lt, if◌then◌else◌, refl, ap, arith, inl, inr, ⊎_elim}
+use Rattle.std.specs.List.{Contains}
 use Rattle.std.proofs.lemmas.Bool.Decides.{nat_tests}
 use Rattle.yew_laws.specs.Incumbent.{Incumbent, improved}
-use Rattle.yew_laws.proofs.Members.{Contains-head, Contains-tail, Contains-map}
+use Rattle.yew_laws.proofs.Members.{Contains-head, Contains-tail}
 use Rattle.yew_log.specs.Notes.{Judgement, values, maximum}
 use Rattle.yew_walk.specs.declared.hand.Hand.{Hand}
 use Rattle.yew_walk.specs.declared.keying.Keying.TheVariants.{Plain}
 use Rattle.yew_walk.specs.Hands.{incumbent_of, best_after}
 use Rattle.yew_walk.specs.Keys.{answer_key}
 use Rattle.yew_walk.proofs.BestVisits.{answer_key-plain, best_after-worth}
-use Rattle.yew_crew.proofs.NearBest.{contained-bounds}
 
 -- a hand or a walk that has found nothing
 abbrev pub nothing : Incumbent
@@ -41,28 +38,32 @@ improved-from found worth path = by (nat_lt found.worth worth) refl
         above a b e = grind (arith, nat_tests)
     by false e = inl (ap (λ b. if b then record { worth = worth; path = Some path } else found) e)
 
-best_after-from : (vs : List Judgement) (found : Incumbent) → (best_after Plain found vs ≡ found) ⊎ ((v : Judgement) × IsNamedBy vs (best_after Plain found vs) v)
+best_after-from : (vs : List Judgement) (found : Incumbent)
+    → (best_after Plain found vs ≡ found) ⊎ ((v : Judgement) × IsNamedBy vs (best_after Plain found vs) v)
 best_after-from [] found = inl refl
 best_after-from (v ∷ vs) found =
     let key = answer_key Plain v.value in
     let next = improved found key v.path in
     ⊎_elim
     (λ (stays : best_after Plain next vs ≡ next).
-        ⊎_elim
-        (λ (same : next ≡ found). inl (stays ∙ same))
-        (λ (taken : (next ≡ record { worth = key; path = Some v.path }) × (found.worth < key)).
-            let is : best_after Plain next vs ≡ record { worth = key; path = Some v.path } = stays ∙ taken.0 in
-            let k = answer_key-plain v.value in
-            let more = taken.1 in
-            inr (v, record {
-              there = Contains-head v vs;
-              path_is = ap (λ (i : Incumbent). i.path) is;
-              worth_is = ap (λ (i : Incumbent). i.worth) is ∙ k;
-              answers = omega arith;
-            }))
-        (improved-from found key v.path))
+    ⊎_elim
+    (λ (same : next ≡ found). inl (stays ∙ same))
+    (λ (taken : (next ≡ record { worth = key; path = Some v.path }) × (found.worth < key)).
+    let is : best_after Plain next vs ≡ record { worth = key; path = Some v.path } = stays ∙ taken.0 in
+    let k = answer_key-plain v.value in
+    let more = taken.1 in
+    inr (
+      v,
+      record {
+        there = Contains-head v vs;
+        path_is = ap (λ (i : Incumbent). i.path) is;
+        worth_is = ap (λ (i : Incumbent). i.worth) is ∙ k;
+        answers = omega arith;
+      },
+    ))
+    (improved-from found key v.path))
     (λ (later : (u : Judgement) × IsNamedBy vs (best_after Plain next vs) u).
-        inr (later.0, record { there = Contains-tail v vs later.0 later.1.there; path_is = later.1.path_is; worth_is = later.1.worth_is; answers = later.1.answers }))
+    inr (later.0, record { there = Contains-tail v vs later.0 later.1.there; path_is = later.1.path_is; worth_is = later.1.worth_is; answers = later.1.answers }))
     (best_after-from vs next)
 
 -- what a hand that begins empty names after visits

@@ -1,15 +1,12 @@
 -- What all workers did, and what the caller walked of what they left, closes: the whole tree is placed, and the root is none of what was left.
-use Rattle.std.proofs.Common.{◌≡◌, ◌≢◌, ℕ, suc, ◌+◌, ◌<◌, ◌≤◌, ◌⊎◌, ◌==◌, Bool, true, false, cond, Option, Some, None, List, [], ◌∷◌, ◌++◌, ◌∙◌, map, length, refl, sym, ap, ap₂, subst, arith, inl, inr, ⊎_elim, append-nil}
+use Rattle.std.proofs.Common.{◌≡◌, ℕ, ◌<◌, ◌≤◌, ◌⊎◌, ◌==◌, Bool, true, false, cond, Option, Some, None, List, [], ◌∷◌, ◌++◌, ◌∙◌, refl, sym, ap, subst, arith, inl, inr, ⊎_elim, append-nil}
 use Rattle.std.specs.List.{AllByRecursion, Contains, flat_map}
 use Rattle.std.proofs.lemmas.List.Sums.{sum_by-append, sum_by-cons}
-use Rattle.std.proofs.lemmas.List.Concat.{flat_map-append}
-use Rattle.yew_laws.specs.Bag.{SameBag, PartOfBag}
-use Rattle.yew_laws.specs.Cover.{Cover}
-use Rattle.yew_laws.specs.Fold.{IsTally}
+use Rattle.yew_laws.specs.Bag.{SameBag}
 use Rattle.yew_laws.specs.Order.{only, occurs, is_path}
 use Rattle.yew_laws.specs.SearchTree.{SearchTree, at_path, bound_at, below, numbered}
 use Rattle.yew_laws.specs.Tree.{IsRanked, IsBounded}
-use Rattle.yew_laws.proofs.Bags.{same-is, same-refl, same-sym, same-trans, same-append, same-cons, same-part, none-weighs, only-itself}
+use Rattle.yew_laws.proofs.Bags.{same-is, same-trans, same-cons, same-part, only-itself}
 use Rattle.yew_laws.proofs.Below.{below-unfolds}
 use Rattle.yew_laws.proofs.Once.{cover-once}
 use Rattle.std.specs.Option.{option_map}
@@ -17,7 +14,7 @@ use Rattle.std.proofs.lemmas.Option.{none-some}
 use Rattle.yew_laws.proofs.PathTests.{nat_same, nat-is, is_path-same, is_path-is}
 use Rattle.yew_laws.proofs.Weights.{part-all, contains-has_weight, contains-weighs}
 use Rattle.yew_log.specs.Notes.{Judgement, paths}
-use Rattle.yew_crew.specs.Groups.{Group, taken, sent, together, IsBalanced, IsClosed}
+use Rattle.yew_crew.specs.Groups.{Group, taken, together, IsBalanced, IsClosed}
 use Rattle.yew_crew.proofs.GroupLaws.{group-covers}
 use Rattle.yew_crew.proofs.NearBest.{at_path-sound}
 
@@ -44,7 +41,8 @@ same-contains xs ys x bag c =
 
 module _ {N : Type 0} (t : SearchTree N) {sound : N → Type 0} (ranked : IsRanked sound t.children t.rank) (bounded : IsBounded sound t.children t.worth t.bound) (root_sound : sound t.root) where
   -- a cut node is at or below itself
-  pub cut-there : (cs : List Judgement) → AllByRecursion (λ (c : Judgement). bound_at t c.path ≡ Some c.value) cs → AllByRecursion (λ c. 0 < occurs c (below t c)) (paths cs)
+  pub cut-there : (cs : List Judgement) → AllByRecursion (λ (c : Judgement). bound_at t c.path ≡ Some c.value) cs
+      → AllByRecursion (λ c. 0 < occurs c (below t c)) (paths cs)
   cut-there [] b = tt
   cut-there (c ∷ cs) b = (own (at_path t c.path) refl b.0, cut-there cs b.1)
     where
@@ -66,7 +64,8 @@ module _ {N : Type 0} (t : SearchTree N) {sound : N → Type 0} (ranked : IsRank
           let k : ◌≡◌ {A = ℕ} (only path c) 1 = ap (λ b. cond b 1 0) e in omega arith
       by false e = let k : ◌≡◌ {A = ℕ} (only path c) 0 = ap (λ b. cond b 1 0) e in omega arith
 
-  pub cut-below : (cs : List (List ℕ)) (path : List ℕ) → AllByRecursion (λ c. 0 < occurs c (below t c)) cs → occurs path cs ≤ occurs path (flat_map (below t) cs)
+  pub cut-below : (cs : List (List ℕ)) (path : List ℕ) → AllByRecursion (λ c. 0 < occurs c (below t c)) cs
+      → occurs path cs ≤ occurs path (flat_map (below t) cs)
   cut-below [] path a = omega arith
   cut-below (c ∷ cs) path a =
       let r = cut-below cs path a.1 in
@@ -76,7 +75,8 @@ module _ {N : Type 0} (t : SearchTree N) {sound : N → Type 0} (ranked : IsRank
 
 module _ {N S : Type 0} (t : SearchTree N) (gap : ℕ) (join : S → S → S) (none : S) (of : N → ℕ → S) where
   -- the first worker, the others, and what the caller walked in the first one's place
-  pub closed-all : (first others rest : Group N S) → SameBag ((first.took ++ others.took) ++ rest.took) ([] ∷ (first.put ++ others.put)) → SameBag ((first.got ++ others.got) ++ rest.got) (first.given ++ others.given) → rest.put ≡ [] → rest.given ≡ []
+  pub closed-all : (first others rest : Group N S) → SameBag ((first.took ++ others.took) ++ rest.took) ([] ∷ (first.put ++ others.put))
+      → SameBag ((first.got ++ others.got) ++ rest.got) (first.given ++ others.given) → rest.put ≡ [] → rest.given ≡ []
       → AllByRecursion (λ x. (x ≡ 0) ⊎ Contains ((first.offered ++ others.offered) ++ rest.offered) x) ((first.read ++ others.read) ++ rest.read) → IsClosed (together join (together join first rest) others)
   closed-all first others rest pool mail put given reads = record {
     pool = same-trans (swap-last first.took rest.took others.took) (same-trans pool (same-cons [] (without-none first.put rest.put others.put put)));
@@ -87,7 +87,9 @@ module _ {N S : Type 0} (t : SearchTree N) (gap : ℕ) (join : S → S → S) (n
         (weaker ((first.read ++ others.read) ++ rest.read) (λ x h. ⊎_elim (λ (z : x ≡ 0). inl z) (λ (c : Contains ((first.offered ++ others.offered) ++ rest.offered) x). inr (same-contains _ _ x offered c)) h) reads);
   }
     where
-      weaker : (xs : List ℕ) → ((x : ℕ) → (x ≡ 0) ⊎ Contains ((first.offered ++ others.offered) ++ rest.offered) x → (x ≡ 0) ⊎ Contains ((first.offered ++ rest.offered) ++ others.offered) x) → AllByRecursion (λ x. (x ≡ 0) ⊎ Contains ((first.offered ++ others.offered) ++ rest.offered) x) xs
+      weaker : (xs : List ℕ)
+          → ((x : ℕ) → (x ≡ 0) ⊎ Contains ((first.offered ++ others.offered) ++ rest.offered) x → (x ≡ 0) ⊎ Contains ((first.offered ++ rest.offered) ++ others.offered) x)
+          → AllByRecursion (λ x. (x ≡ 0) ⊎ Contains ((first.offered ++ others.offered) ++ rest.offered) x) xs
           → AllByRecursion (λ x. (x ≡ 0) ⊎ Contains ((first.offered ++ rest.offered) ++ others.offered) x) xs
       weaker [] f a = tt
       weaker (x ∷ xs) f a = (f x a.0, weaker xs f a.1)
@@ -103,7 +105,8 @@ module _ {N S : Type 0} (t : SearchTree N) (gap : ℕ) (join : S → S → S) (n
         let low = cut-below t ranked bounded root_sound (paths g.cuts) path (cut-there t ranked bounded root_sound g.cuts balanced.bounds) in omega arith
 
     -- so where a worker took the root's task, the caller was left none that is the root's
-    pub left-below : (first others rest : Group N S) → IsBalanced t gap join none of (together join (together join first rest) others) → IsClosed (together join (together join first rest) others)
+    pub left-below : (first others rest : Group N S) → IsBalanced t gap join none of (together join (together join first rest) others)
+        → IsClosed (together join (together join first rest) others)
         → Contains (taken (together join first others)) [] → occurs [] (taken rest) ≡ 0
     left-below first others rest balanced closed root =
         let once = taken-once (together join (together join first rest) others) balanced closed [] in

@@ -26,7 +26,8 @@ module _ {P S R N K : Type 0} where
 
   module _ (s : Searched S R N) where
     -- without a fault the joined seat has the stops that the first one had
-    stops-stay : (befores : List (Station P S R N K)) (reports : List (Report P S R N K)) (seat : OpenSeatView) → AreReports s befores reports → AllByRecursion (λ (b : Station P S R N K). b.tasks.stops ≡ 0) befores → AllByRecursion (λ (r : Report P S R N K). HasNoFault r.end) reports
+    stops-stay : (befores : List (Station P S R N K)) (reports : List (Report P S R N K)) (seat : OpenSeatView) → AreReports s befores reports
+        → AllByRecursion (λ (b : Station P S R N K). b.tasks.stops ≡ 0) befores → AllByRecursion (λ (r : Report P S R N K). HasNoFault r.end) reports
         → (tasks_with seat (stations_of reports)).stops ≡ seat.stops
     stops-stay [] [] seat are begins ends = refl
     stops-stay [] (r ∷ rs) seat are begins ends = absurd are
@@ -43,7 +44,8 @@ module _ {P S R N K : Type 0} where
         unstopped (Fault fault) is calm = absurd calm
 
     -- so no worker was told to stop
-    pub all-done : (befores : List (Station P S R N K)) (reports : List (Report P S R N K)) (seat : OpenSeatView) → AreReports s befores reports → AllByRecursion (λ (b : Station P S R N K). b.tasks.stops ≡ 0) befores → AllByRecursion (λ (r : Report P S R N K). HasNoFault r.end) reports
+    pub all-done : (befores : List (Station P S R N K)) (reports : List (Report P S R N K)) (seat : OpenSeatView) → AreReports s befores reports
+        → AllByRecursion (λ (b : Station P S R N K). b.tasks.stops ≡ 0) befores → AllByRecursion (λ (r : Report P S R N K). HasNoFault r.end) reports
         → seat.stops ≡ 0 → ((tasks_with seat (stations_of reports)).saw ≡ true → 0 < (tasks_with seat (stations_of reports)).stops) → AllByRecursion (λ (r : Report P S R N K). IsEndDone r.end) reports
     all-done [] [] seat are begins ends none_first exact = tt
     all-done [] (r ∷ rs) seat are begins ends none_first exact = absurd are

@@ -32,7 +32,8 @@ grows-both : {X : Type 0} (xs ys xs' ys' g h : List X) → SameBag xs' (xs ++ g)
 grows-both xs ys xs' ys' g h a b = same-trans (same-append a b) (same-deals xs g ys h)
 
 -- the sum of a group fits
-pub group-fits : {S R N : Type 0} (s : Searched S R N) {fits : S → Type 0} → IsTally fits s.join s.none → ((n : N) (depth : ℕ) → fits (s.of n depth)) → (g : Group N S) → IsBalanced s.tree s.gap s.join s.none s.of g → fits g.sum
+pub group-fits : {S R N : Type 0} (s : Searched S R N) {fits : S → Type 0} → IsTally fits s.join s.none → ((n : N) (depth : ℕ) → fits (s.of n depth))
+    → (g : Group N S) → IsBalanced s.tree s.gap s.join s.none s.of g → fits g.sum
 group-fits s {fits} tally of_fits g is = subst fits (sym is.sum_is) (fold-fits tally (of_member s.of) (λ m. of_fits m.node (length m.path)) g.members)
 
 module _ {P S R N K : Type 0} (s : Searched S R N) {fits : S → Type 0} (tally : IsTally fits s.join s.none) (of_fits : (n : N) (depth : ℕ) → fits (s.of n depth)) where
@@ -57,7 +58,9 @@ module _ {P S R N K : Type 0} (s : Searched S R N) {fits : S → Type 0} (tally 
       }
 
   -- by induction over the workers: all of them together are a group
-  pub crew-work : (groups : List (Group N S)) (befores afters : List (Station P S R N K)) (seat : SeatView) (tasks : OpenSeatView) → AllByRecursion (IsFresh fits) befores → AreWorked s groups befores afters → IsCrewWork s (all_together s.join s.none groups) seat tasks befores afters
+  pub crew-work : (groups : List (Group N S)) (befores afters : List (Station P S R N K)) (seat : SeatView) (tasks : OpenSeatView)
+      → AllByRecursion (IsFresh fits) befores → AreWorked s groups befores afters
+      → IsCrewWork s (all_together s.join s.none groups) seat tasks befores afters
   crew-work [] [] [] seat tasks fresh worked = record {
     balanced = idle-balanced s.tree s.gap s.join s.none tally s.of of_fits;
     took_is = same-refl [];

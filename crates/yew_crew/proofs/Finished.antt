@@ -1,6 +1,6 @@
 -- Where all workers have come to their ends and nothing is left, their logs, their hands and their sums are right for the tree.
-use Rattle.std.proofs.Common.{◌≡◌, ℕ, zero, suc, ◌+◌, ◌<◌, ◌≤◌, ◌⊎◌, Bool, true, false, List, [], ◌∷◌, ◌++◌, ◌∙◌, Option, Some, None, map, max, length, refl, sym, ap, ap₂, subst, arith, inl, inr, ⊎_elim}
-use Rattle.std.specs.List.{AllByRecursion, Contains, flat_map}
+use Rattle.std.proofs.Common.{◌≡◌, ℕ, suc, ◌<◌, ◌≤◌, Bool, true, false, List, [], ◌∷◌, ◌++◌, ◌∙◌, Option, Some, None, map, length, refl, sym, ap, ap₂, subst, arith, inl, inr, ⊎_elim}
+use Rattle.std.specs.List.{AllByRecursion, Contains}
 use Rattle.std.specs.Option.{IfSome}
 use Rattle.std.proofs.lemmas.List.{map-append, length-append}
 use Rattle.std.proofs.lemmas.List.Concat.{flat_map-append}
@@ -9,26 +9,24 @@ use Rattle.yew_laws.specs.Bag.{SameBag}
 use Rattle.yew_laws.specs.Cover.{Cover}
 use Rattle.yew_laws.specs.Fold.{fold_of}
 use Rattle.yew_laws.specs.Incumbent.{Incumbent}
-use Rattle.yew_laws.specs.SearchTree.{SearchTree}
 use Rattle.yew_laws.proofs.Bags.{same-is, same-refl, same-sym, same-trans, same-append, same-cons}
 use Rattle.yew_laws.proofs.Members.{Contains-map}
 use Rattle.yew_log.specs.Attained.{Attained}
 use Rattle.yew_log.specs.Lawful.{LawfulLog}
-use Rattle.yew_log.specs.Notes.{Note, Judgement, paths, values, maximum, visits, cuts, visit_in, cut_in, taken_in, sent_in, taken_paths, sent_paths, visited_paths, cut_paths}
+use Rattle.yew_log.specs.Notes.{Note, Judgement, paths, values, maximum, visits, cuts, visit_in, cut_in, taken_in, sent_in, taken_paths, sent_paths, cut_paths}
 use Rattle.yew_log.specs.Places.{AtEach}
 use Rattle.yew_log.specs.WholeSearch.{AreLogs, IsBestVisit, joined}
 use Rattle.yew_walk.specs.declared.hand.Hand.{Hand}
 use Rattle.yew_walk.specs.declared.keying.Keying.TheVariants.{Plain}
 use Rattle.yew_walk.specs.Hands.{incumbent_of, best_after}
-use Rattle.yew_walk.specs.LogViews.{LogView}
 use Rattle.yew_crew.specs.CrewSearch.{IsLogOf, AreLogsOf}
-use Rattle.yew_crew.specs.Gathering.{IsGathered, IsFirstBest}
+use Rattle.yew_crew.specs.Gathering.{IsGathered}
 use Rattle.yew_crew.specs.Groups.{Group, taken, sent, idle, together, IsBalanced, IsClosed}
 use Rattle.yew_crew.specs.Stations.{Searched, skeleton_of}
 use Rattle.yew_crew.proofs.BestFinds.{nothing, IsNamedBy, IsBestOf, best_after-best, maximum-append, holding, not_holding}
 use Rattle.yew_crew.proofs.Gathering.{none-greater}
 use Rattle.yew_crew.proofs.GroupLaws.{same-deals, group-covers, group-attained}
-use Rattle.yew_crew.proofs.NearBest.{contained-bounds, maximum-least}
+use Rattle.yew_crew.proofs.NearBest.{contained-bounds}
 
 -- what one worker has done, noted and found, with what the caller walked for it
 pub record Finish (S R N : Type 0) : Type 0 where
@@ -91,9 +89,10 @@ module _ {S R N : Type 0} (s : Searched S R N) (workers : ℕ) where
   each-lawful : (before : List (List Note)) (number : ℕ) (fs : List (Finish S R N)) → number ≡ suc (length before) → AreFinished number fs
       → AtEach (λ before log after. LawfulLog s.tree s.gap (skeleton_of s.coord) workers (suc (length before)) log) before (notes_of fs)
   each-lawful before number [] e are = tt
-  each-lawful before number (f ∷ fs) e are =
-      (subst (λ n. LawfulLog s.tree s.gap (skeleton_of s.coord) workers n f.notes) e are.0.lawful,
-      each-lawful (before ++ f.notes ∷ []) (suc number) fs (let l = length-append before (f.notes ∷ []) in omega arith) are.1)
+  each-lawful before number (f ∷ fs) e are = (
+    subst (λ n. LawfulLog s.tree s.gap (skeleton_of s.coord) workers n f.notes) e are.0.lawful,
+    each-lawful (before ++ f.notes ∷ []) (suc number) fs (let l = length-append before (f.notes ∷ []) in omega arith) are.1,
+  )
 
   -- the logs that are handed back
   pub logs-kept : (number : ℕ) (fs : List (Finish S R N)) → AreFinished number fs → AreLogsOf number (notes_of fs) (map (λ (f : Finish S R N). s.seen f.log) fs)
@@ -101,7 +100,8 @@ module _ {S R N : Type 0} (s : Searched S R N) (workers : ℕ) where
   logs-kept number (f ∷ fs) are = (are.0.log_is, logs-kept (suc number) fs are.1)
 
   -- all groups are balanced and closed, so the logs are those of a whole search
-  pub logs-whole : (fs : List (Finish S R N)) (solution : Option N) → AreFinished 1 fs → length fs ≡ workers → IsBalanced s.tree s.gap s.join s.none s.of (whole fs) → IsClosed (whole fs)
+  pub logs-whole : (fs : List (Finish S R N)) (solution : Option N) → AreFinished 1 fs → length fs ≡ workers
+      → IsBalanced s.tree s.gap s.join s.none s.of (whole fs) → IsClosed (whole fs)
       → IfSome solution (IsBestVisit s.tree (joined (notes_of fs))) → AreLogs s.tree s.gap (skeleton_of s.coord) workers (notes_of fs) solution
   logs-whole fs solution are count balanced closed best =
       let vs = joined-visits 1 fs are in let cs = joined-cuts 1 fs are in
@@ -119,7 +119,8 @@ module _ {S R N : Type 0} (s : Searched S R N) (workers : ℕ) where
       one_each (f ∷ fs) = ap suc (one_each fs)
 
   -- the sums of the hands are the sum of the group
-  pub sums-whole : (number : ℕ) (fs : List (Finish S R N)) → AreFinished number fs → fold_of s.join s.none (λ (h : Hand S). h.sum) (finished_hands fs) ≡ (whole fs).sum
+  pub sums-whole : (number : ℕ) (fs : List (Finish S R N)) → AreFinished number fs
+      → fold_of s.join s.none (λ (h : Hand S). h.sum) (finished_hands fs) ≡ (whole fs).sum
   sums-whole number [] are = refl
   sums-whole number (f ∷ fs) are = ap₂ s.join are.0.sum_is (sums-whole (suc number) fs are.1)
 
@@ -128,7 +129,8 @@ module _ {S R N : Type 0} (s : Searched S R N) (workers : ℕ) where
   own-best number f is = subst (IsBestOf f.group.visits) (sym is.best_is) (best_after-best f.group.visits)
 
   -- no visit has a greater worth than all keys
-  visits-low : (number : ℕ) (fs : List (Finish S R N)) (key : ℕ) → AreFinished number fs → AllByRecursion (λ (h : Hand S). h.holds ≡ true → h.key ≤ key) (finished_hands fs) → maximum (values (whole fs).visits) ≤ key
+  visits-low : (number : ℕ) (fs : List (Finish S R N)) (key : ℕ) → AreFinished number fs
+      → AllByRecursion (λ (h : Hand S). h.holds ≡ true → h.key ≤ key) (finished_hands fs) → maximum (values (whole fs).visits) ≤ key
   visits-low number [] key are low = omega arith
   visits-low number (f ∷ fs) key are low =
       let rest = visits-low (suc number) fs key are.1 low.1 in
@@ -150,16 +152,17 @@ module _ {S R N : Type 0} (s : Searched S R N) (workers : ℕ) where
   own-key number f is e = ⊎_elim
       (λ (none : incumbent_of f.hand ≡ nothing). absurd (let h = ap (λ (i : Incumbent). i.path) (sym (holding f.hand e) ∙ none) in let n : Some f.hand.path.numbers ≡ None → ⊥ = λ x. cc in n h))
       (λ (named : (v : Judgement) × IsNamedBy f.group.visits (incumbent_of f.hand) v).
-          let v = named.0 in
-          let p : Some v.path ≡ Some f.hand.path.numbers = sym named.1.path_is ∙ ap (λ (i : Incumbent). i.path) (holding f.hand e) in
-          let w : v.value ≡ f.hand.key = sym named.1.worth_is ∙ ap (λ (i : Incumbent). i.worth) (holding f.hand e) in
-          let path_same : v.path ≡ f.hand.path.numbers = cc in
-          let pos = named.1.answers in
-          (v, record { there = named.1.there; path_is = path_same; key_is = w; answers = omega arith }))
+      let v = named.0 in
+      let p : Some v.path ≡ Some f.hand.path.numbers = sym named.1.path_is ∙ ap (λ (i : Incumbent). i.path) (holding f.hand e) in
+      let w : v.value ≡ f.hand.key = sym named.1.worth_is ∙ ap (λ (i : Incumbent). i.worth) (holding f.hand e) in
+      let path_same : v.path ≡ f.hand.path.numbers = cc in
+      let pos = named.1.answers in
+      (v, record { there = named.1.there; path_is = path_same; key_is = w; answers = omega arith }))
       (own-best number f is).named
 
   -- the visit that a chosen hand names is one of all visits
-  chosen-key : (number : ℕ) (fs : List (Finish S R N)) (before after : List (Hand S)) (chosen : Hand S) → AreFinished number fs → finished_hands fs ≡ before ++ chosen ∷ after → chosen.holds ≡ true → (v : Judgement) × IsKeyOf (whole fs).visits chosen v
+  chosen-key : (number : ℕ) (fs : List (Finish S R N)) (before after : List (Hand S)) (chosen : Hand S) → AreFinished number fs
+      → finished_hands fs ≡ before ++ chosen ∷ after → chosen.holds ≡ true → (v : Judgement) × IsKeyOf (whole fs).visits chosen v
   chosen-key number [] [] after chosen are e holds = absurd (let n = ap length e in omega arith)
   chosen-key number [] (b ∷ before) after chosen are e holds = absurd (let n = ap length e in omega arith)
   chosen-key number (f ∷ fs) [] after chosen are e holds =
@@ -173,7 +176,8 @@ module _ {S R N : Type 0} (s : Searched S R N) (workers : ℕ) where
       (rest.0, record { there = Contains-append_right f.group.visits (whole fs).visits rest.0 rest.1.there; path_is = rest.1.path_is; key_is = rest.1.key_is; answers = rest.1.answers })
 
   -- the hand that was gathered names the best of all visits
-  pub gathered-best : (number : ℕ) (fs : List (Finish S R N)) (hand : Hand S) → AreFinished number fs → IsGathered s.join s.none (finished_hands fs) hand → IsBestOf (whole fs).visits (incumbent_of hand)
+  pub gathered-best : (number : ℕ) (fs : List (Finish S R N)) (hand : Hand S) → AreFinished number fs
+      → IsGathered s.join s.none (finished_hands fs) hand → IsBestOf (whole fs).visits (incumbent_of hand)
   gathered-best number fs hand are g = by hand.holds refl
     where
       by : (b : Bool) → hand.holds ≡ b → IsBestOf (whole fs).visits (incumbent_of hand)
@@ -189,12 +193,15 @@ module _ {S R N : Type 0} (s : Searched S R N) (workers : ℕ) where
           let pos = named.1.answers in
           record {
             greatest = ap (λ (i : Incumbent). i.worth) is ∙ omega arith;
-            named = inr (v, record {
-              there = named.1.there;
-              path_is = ap (λ (i : Incumbent). i.path) is ∙ ap Some (ap (λ p. p.numbers) found.2.path ∙ sym named.1.path_is);
-              worth_is = ap (λ (i : Incumbent). i.worth) is ∙ omega arith;
-              answers = omega arith;
-            });
+            named = inr (
+              v,
+              record {
+                there = named.1.there;
+                path_is = ap (λ (i : Incumbent). i.path) is ∙ ap Some (ap (λ p. p.numbers) found.2.path ∙ sym named.1.path_is);
+                worth_is = ap (λ (i : Incumbent). i.worth) is ∙ omega arith;
+                answers = omega arith;
+              },
+            );
           }
       by false e =
           let found = g.empty e in
@@ -202,6 +209,7 @@ module _ {S R N : Type 0} (s : Searched S R N) (workers : ℕ) where
           let low = visits-low number fs 0 are (none-held (finished_hands fs) found.1.none_holds) in
           record { greatest = ap (λ (i : Incumbent). i.worth) is ∙ omega arith; named = inl is }
         where
-          none-held : (hs : List (Hand S)) → AllByRecursion (λ (h : Hand S). h.holds ≡ false) hs → AllByRecursion (λ (h : Hand S). h.holds ≡ true → h.key ≤ 0) hs
+          none-held : (hs : List (Hand S)) → AllByRecursion (λ (h : Hand S). h.holds ≡ false) hs
+              → AllByRecursion (λ (h : Hand S). h.holds ≡ true → h.key ≤ 0) hs
           none-held [] a = tt
           none-held (h ∷ hs) a = ((λ y. absurd (let n : true ≡ false → ⊥ = λ x. cc in n (sym y ∙ a.0))), none-held hs a.1)

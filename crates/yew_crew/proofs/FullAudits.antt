@@ -1,7 +1,7 @@
 -- Why a crew's audit was full: a worker's log had no room for its next entry.
-use Rattle.std.proofs.Common.{◌≡◌, ℕ, ◌+◌, ◌<◌, ◌≤◌, List, [], ◌∷◌, ◌++◌, ◌∙◌, Option, Some, None, length, map, refl, sym, ap, subst, arith, append_assoc}
+use Rattle.std.proofs.Common.{◌≡◌, ℕ, ◌≤◌, List, [], ◌∷◌, ◌++◌, ◌∙◌, Option, Some, length, refl, sym, ap, subst, arith, append_assoc}
 use Rattle.std.specs.Prelude.{IfSome, IsSome}
-use Rattle.std.specs.List.{AllByRecursion, flat_map}
+use Rattle.std.specs.List.{AllByRecursion}
 use Rattle.std.proofs.lemmas.List.{map-append}
 use Rattle.std.proofs.lemmas.List.Sums.{sum_by-append}
 use Rattle.std.proofs.lemmas.List.Concat.{flat_map-append}
@@ -9,15 +9,11 @@ use Rattle.yew_laws.specs.Bag.{PartOfBag}
 use Rattle.yew_laws.specs.Order.{only, occurs}
 use Rattle.yew_laws.specs.SearchTree.{SearchTree, at_path}
 use Rattle.yew_laws.proofs.Bags.{part-trans, part-left}
-use Rattle.yew_log.specs.AuditFull.{IsAuditFull}
-use Rattle.yew_log.specs.Groups.{Skeleton, sequential, by_depth, by_budget, by_steal}
-use Rattle.yew_log.specs.HeldValues.{plain, HeldIsMaximum}
+use Rattle.yew_log.specs.Groups.{sequential}
 use Rattle.yew_log.specs.Lawful.{IsBrokenLog}
 use Rattle.yew_log.specs.Notes.{Note, Judgement, path_of, path_numbers, judgements, judgement_in, paths, taken_in, sent_in, ended_in, taken_paths, sent_paths, ended_paths}
 use Rattle.yew_log.specs.Places.{AtEach}
-use Rattle.yew_log.specs.Recording.{IsFull}
 use Rattle.yew_log.specs.Segment.{Segment, entries, entries_in, IsBroken, AreOfTree, OneOfAKind, IsOnce}
-use Rattle.yew_log.specs.SeqLog.{seq_log}
 use Rattle.yew_walk.specs.LogViews.{LogView, log_after}
 use Rattle.yew_walk.specs.Scenes.{IsCause}
 use Rattle.yew_walk.specs.declared.fault.SearchFault.{SearchFault}
@@ -65,7 +61,8 @@ broken-in_tree t [] each = tt
 broken-in_tree t (x ∷ xs) each = AllByRecursion-append (λ note. IsSome (at_path t (path_of note))) (entries_in x) (entries xs) each.0.in_tree (broken-in_tree t xs each.1)
 
 -- a log that was new and tells its entries tells just these
-told-all : (before after : LogView) (notes told : List Note) → IfSome before.told (λ ns. ns ≡ []) → after ≡ log_after before notes → after.told ≡ Some told → told ≡ notes
+told-all : (before after : LogView) (notes told : List Note) → IfSome before.told (λ ns. ns ≡ []) → after ≡ log_after before notes
+    → after.told ≡ Some told → told ≡ notes
 told-all before after notes told new is e =
     subst (λ (o : Option (List Note)). IfSome o (λ ns. ns ≡ notes)) e (fresh-told before.told after.told notes new (ap (λ (l : LogView). l.told) is ∙ log_after-told before notes))
 
@@ -84,11 +81,14 @@ module _ {P S R N K : Type 0} (s : Searched S R N) (before after : Station P S R
   }
 
   -- a fault of this worker is one of the crew
-  pub faulty-crew : (workers number : ℕ) (tells : Type 0) (fault : SearchFault) (faulty : IsFaulty s fault before after) → IfSome (s.seen before.log).told (λ ns. ns ≡ []) → (s.seen before.log).number ≡ number → 1 ≤ number → number ≤ workers → (workers ≡ 1 → IsAlone before) → (IsSome (s.seen after.log).told → tells)
+  pub faulty-crew : (workers number : ℕ) (tells : Type 0) (fault : SearchFault) (faulty : IsFaulty s fault before after)
+      → IfSome (s.seen before.log).told (λ ns. ns ≡ []) → (s.seen before.log).number ≡ number → 1 ≤ number → number ≤ workers
+      → (workers ≡ 1 → IsAlone before) → (IsSome (s.seen after.log).told → tells)
       → OneOfAKind (faulty.part.notes ++ faulty.ahead) → IsCrewFault s.tree s.gap (skeleton_of s.coord) workers tells fault
   faulty-crew workers number tells fault faulty new number_is low high alone telling one = by fault faulty.ahead faulty.part faulty.cause one
     where
-      by : (fault : SearchFault) (ahead : List Note) (part : IsPartWork s ahead before after) → IsCause fault (s.seen after.log) ahead → OneOfAKind (part.notes ++ ahead) → IsCrewFault s.tree s.gap (skeleton_of s.coord) workers tells fault
+      by : (fault : SearchFault) (ahead : List Note) (part : IsPartWork s ahead before after) → IsCause fault (s.seen after.log) ahead
+          → OneOfAKind (part.notes ++ ahead) → IsCrewFault s.tree s.gap (skeleton_of s.coord) workers tells fault
       by Memory ahead part cause one = tt
       by (TooManyTasks n) ahead part cause one = absurd cause
       by (AuditFull worker es ns) [] part cause one = absurd cause
@@ -97,14 +97,20 @@ module _ {P S R N K : Type 0} (s : Searched S R N) (before after : Station P S R
           let same = told-all (s.seen before.log) (s.seen after.log) part.notes full.notes new part.log_is full.are_told in
           let is : worker ≡ number = cause.0 ∙ (ap (λ (l : LogView). l.number) part.log_is ∙ (log_after-number (s.seen before.log) part.notes ∙ number_is)) in
           let front : part.notes ++ next ∷ more ≡ (part.notes ++ next ∷ []) ++ more = sym (append_assoc part.notes (next ∷ []) more) in
-          let tree : AreOfTree s.tree (part.notes ++ next ∷ more) = subst (AreOfTree s.tree) (sym part.keeps_ahead.cut_up) (broken-in_tree s.tree part.keeps_ahead.segments part.keeps_ahead.each) in
-          (telling (subst IsSome (sym full.are_told) refl), (omega arith, omega arith, record {
-            notes = part.notes;
-            next = next;
-            full = record { notes = part.notes; are_told = refl; entries_are = full.entries_are ∙ ap length same; numbers_are = full.numbers_are ∙ ap path_numbers same; past = full.past };
-            in_tree = all-front (λ note. IsSome (at_path s.tree (path_of note))) (part.notes ++ next ∷ []) more (subst (AreOfTree s.tree) front tree);
-            one_of_a_kind = kinds-front (part.notes ++ next ∷ []) more (subst OneOfAKind front one);
-            keeps = subst (λ kind. IsBrokenLog s.tree s.gap kind part.notes) (sym (plain-kind s.coord)) part.keeps;
-            alone = λ e. each-front _ [] part.notes (next ∷ more) (part.alone (alone e));
-            sequential_next = λ e. not-sequential s.coord e;
-          }))
+          let tree : AreOfTree s.tree (part.notes ++ next ∷ more) = subst (AreOfTree s.tree) (sym part.keeps_ahead.cut_up) (broken-in_tree s.tree part.keeps_ahead.segments part.keeps_ahead.each) in (
+            telling (subst IsSome (sym full.are_told) refl),
+            (
+              omega arith,
+              omega arith,
+              record {
+                notes = part.notes;
+                next = next;
+                full = record { notes = part.notes; are_told = refl; entries_are = full.entries_are ∙ ap length same; numbers_are = full.numbers_are ∙ ap path_numbers same; past = full.past };
+                in_tree = all-front (λ note. IsSome (at_path s.tree (path_of note))) (part.notes ++ next ∷ []) more (subst (AreOfTree s.tree) front tree);
+                one_of_a_kind = kinds-front (part.notes ++ next ∷ []) more (subst OneOfAKind front one);
+                keeps = subst (λ kind. IsBrokenLog s.tree s.gap kind part.notes) (sym (plain-kind s.coord)) part.keeps;
+                alone = λ e. each-front _ [] part.notes (next ∷ more) (part.alone (alone e));
+                sequential_next = λ e. not-sequential s.coord e;
+              },
+            ),
+          )

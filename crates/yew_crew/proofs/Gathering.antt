@@ -17,7 +17,8 @@ module _ {S : Type 0} (fits : S → Type 0) (join : S → S → S) (none : S) wh
     pub fits_sum : fits hand.sum
 
   -- no hand of a gathered list has a greater key than the gathered one
-  pub none-greater : (hands : List (Hand S)) (chosen : Hand S) (key : ℕ) → IsFirstBest hands chosen → chosen.key ≤ key → AllByRecursion (λ (h : Hand S). h.holds ≡ true → h.key ≤ key) hands
+  pub none-greater : (hands : List (Hand S)) (chosen : Hand S) (key : ℕ) → IsFirstBest hands chosen → chosen.key ≤ key
+      → AllByRecursion (λ (h : Hand S). h.holds ≡ true → h.key ≤ key) hands
   none-greater hands chosen key is le =
       subst (λ hs. AllByRecursion (λ (h : Hand S). h.holds ≡ true → h.key ≤ key) hs) (sym is.stands)
       (AllByRecursion-append (λ (h : Hand S). h.holds ≡ true → h.key ≤ key) is.before (chosen ∷ is.after)
@@ -79,7 +80,8 @@ module _ {S : Type 0} (fits : S → Type 0) (join : S → S → S) (none : S) wh
       less_or_not : (k l : ℕ) → (k < l) ⊎ (l ≤ k)
       less_or_not k l = grind arith
 
-      by_cases : (o f : Bool) → others.holds ≡ o → first.holds ≡ f → (first.key < others.key) ⊎ (others.key ≤ first.key) → IsGathered join none (first ∷ hands) result
+      by_cases : (o f : Bool) → others.holds ≡ o → first.holds ≡ f → (first.key < others.key) ⊎ (others.key ≤ first.key)
+          → IsGathered join none (first ∷ hands) result
       by_cases true false ho hf less = takes-others first others result hands g sum ho (by_others ho (inl hf)) (inl hf)
       by_cases true true ho hf less = ⊎_elim
           (λ (p : first.key < others.key). takes-others first others result hands g sum ho (by_others ho (inr p)) (inr p))
@@ -92,7 +94,8 @@ module _ {S : Type 0} (fits : S → Type 0) (join : S → S → S) (none : S) wh
 
   module _ (tally : IsTally fits join none) where
     -- the last hand alone
-    pub gathering-begins : (all rest : List (Hand S)) (last : Hand S) → all ≡ rest ++ last ∷ [] → AllByRecursion (λ (h : Hand S). fits h.sum) all → IsGathering all rest last
+    pub gathering-begins : (all rest : List (Hand S)) (last : Hand S) → all ≡ rest ++ last ∷ [] → AllByRecursion (λ (h : Hand S). fits h.sum) all
+        → IsGathering all rest last
     gathering-begins all rest last e f =
         let parts = all_but_last (λ (h : Hand S). fits h.sum) rest last (subst (λ hs. AllByRecursion (λ (h : Hand S). fits h.sum) hs) e f) in
         record {
@@ -108,7 +111,8 @@ module _ {S : Type 0} (fits : S → Type 0) (join : S → S → S) (none : S) wh
         }
 
     -- one hand more
-    pub gathering-more : (all rest rest' : List (Hand S)) (first others result : Hand S) → IsGathering all rest others → rest ≡ rest' ++ first ∷ [] → result.sum ≡ join first.sum others.sum
+    pub gathering-more : (all rest rest' : List (Hand S)) (first others result : Hand S) → IsGathering all rest others → rest ≡ rest' ++ first ∷ []
+        → result.sum ≡ join first.sum others.sum
         → (others.holds ≡ true → (first.holds ≡ false) ⊎ (first.key < others.key) → result ≡ record others { sum = result.sum })
         → (first.holds ≡ true → others.key ≤ first.key → result ≡ record first { sum = result.sum })
         → (others.holds ≡ false → result ≡ record first { sum = result.sum }) → IsGathering all rest' result

@@ -59,7 +59,8 @@ module _ {N S : Type 0} (t : SearchTree N) (gap : ℕ) {fits : S → Type 0} (jo
   }
 
   -- two groups that keep the equations keep them together
-  pub balanced-together : (g h : Group N S) → IsBalanced t gap join none of g → IsBalanced t gap join none of h → IsBalanced t gap join none of (together join g h)
+  pub balanced-together : (g h : Group N S) → IsBalanced t gap join none of g → IsBalanced t gap join none of h
+      → IsBalanced t gap join none of (together join g h)
   balanced-together g h a b = record {
     covered =
         let vs : paths (g.visits ++ h.visits) ≡ paths g.visits ++ paths h.visits = map-append (λ (j : Judgement). j.path) g.visits h.visits in
@@ -101,7 +102,8 @@ module _ {N S : Type 0} (t : SearchTree N) (gap : ℕ) {fits : S → Type 0} (jo
   }
 
   -- so all groups of a list do
-  pub balanced-all : (gs : List (Group N S)) → AllByRecursion (λ g. IsBalanced t gap join none of g) gs → IsBalanced t gap join none of (all_together join none gs)
+  pub balanced-all : (gs : List (Group N S)) → AllByRecursion (λ g. IsBalanced t gap join none of g) gs
+      → IsBalanced t gap join none of (all_together join none gs)
   balanced-all [] each = idle-balanced
   balanced-all (g ∷ gs) each = balanced-together g (all_together join none gs) each.0 (balanced-all gs each.1)
 
@@ -130,7 +132,8 @@ not_zero (suc n) f = omega arith
 
 module _ {N S : Type 0} (t : SearchTree N) (gap : ℕ) (join : S → S → S) (none : S) (of : N → ℕ → S) where
   -- the crew and the caller together have closed, where the caller walked what the pool and the mailboxes left
-  pub closed-with_rest : (crew rest : Group N S) → IsRest crew rest → AllByRecursion (λ x. (x ≡ 0) ⊎ Contains (crew.offered ++ rest.offered) x) (crew.read ++ rest.read) → IsClosed (together join crew rest)
+  pub closed-with_rest : (crew rest : Group N S) → IsRest crew rest
+      → AllByRecursion (λ x. (x ≡ 0) ⊎ Contains (crew.offered ++ rest.offered) x) (crew.read ++ rest.read) → IsClosed (together join crew rest)
   closed-with_rest crew rest left reads = record {
     pool = same-trans left.pool (same-is (ap (λ ps. [] ∷ ps) (none_more crew.put rest.put left.put_none)));
     mail = same-trans left.mail (same-is (none_more crew.given rest.given left.gave_none));
@@ -158,7 +161,8 @@ module _ {N S : Type 0} (t : SearchTree N) (gap : ℕ) (join : S → S → S) (n
   group-attained g a c = attained-from_seats t gap g.visits g.cuts g.read g.offered a.worths a.bounds a.permitted c.reads (same-part (same-sym a.read_are)) (same-part a.offered_are)
 
   -- Where workers took or sent anything, the root's task is not left to the caller. Else all that they took was sent by them, so what they took covers no more than what they sent, and they visited and cut nothing
-  pub root-taken : (g : Group N S) (left : List (List ℕ)) → IsBalanced t gap join none of g → SameBag (taken g ++ left) ([] ∷ sent g) → AllByRecursion (λ path. 0 < length (below t path)) (taken g ++ sent g) → (0 < g.ended) ⊎ (0 < g.made) → Contains (taken g) []
+  pub root-taken : (g : Group N S) (left : List (List ℕ)) → IsBalanced t gap join none of g → SameBag (taken g ++ left) ([] ∷ sent g)
+      → AllByRecursion (λ path. 0 < length (below t path)) (taken g ++ sent g) → (0 < g.ended) ⊎ (0 < g.made) → Contains (taken g) []
   root-taken g left a tasks there busy =
       contains-weighs is_path is_path-same is_path-is (taken g) [] (not_zero (sum_by (only []) (taken g)) (λ absent.
       let size : List ℕ → ℕ = λ p. sum_by (λ (q : List ℕ). 1) (below t p) in

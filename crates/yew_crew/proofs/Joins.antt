@@ -1,5 +1,5 @@
 -- What is joined one report after another.
-use Rattle.std.proofs.Common.{◌≡◌, ℕ, ◌<◌, List, [], ◌∷◌, ◌++◌, ◌∙◌, Option, length, slice_index_or, arith, refl, sym, ap, ap₂, append-nil, append_assoc, subst}
+use Rattle.std.proofs.Common.{◌≡◌, ◌<◌, List, [], ◌∷◌, ◌++◌, ◌∙◌, Option, length, slice_index_or, arith, refl, sym, ap, ap₂, append-nil, append_assoc, subst}
 use Rattle.std.specs.List.{AllByRecursion, remove}
 use Rattle.std.proofs.lemmas.List.{map-append}
 use Rattle.yew_best.specs.Seats.{SeatView}
@@ -24,7 +24,8 @@ module _ {P S R N K : Type 0} where
   stations-append : (reports more : List (Report P S R N K)) → stations_of (reports ++ more) ≡ stations_of reports ++ stations_of more
   stations-append reports more = map-append (λ (r : Report P S R N K). r.station) reports more
 
-  fault_in-last : (reports : List (Report P S R N K)) (fault : Option SearchFault) (last : Report P S R N K) → fault_in fault (reports ++ last ∷ []) ≡ first_fault (fault_in fault reports) last.end
+  fault_in-last : (reports : List (Report P S R N K)) (fault : Option SearchFault) (last : Report P S R N K)
+      → fault_in fault (reports ++ last ∷ []) ≡ first_fault (fault_in fault reports) last.end
   fault_in-last [] fault last = refl
   fault_in-last (r ∷ rs) fault last = fault_in-last rs (first_fault fault r.end) last
 
@@ -35,7 +36,8 @@ module _ {P S R N K : Type 0} where
       h ∙ (ap (λ l. l ++ g (stations_of (last ∷ []))) e ∙ (append_assoc old (g (stations_of reports)) (g (stations_of (last ∷ []))) ∙ ap (λ l. old ++ l) (sym (ap g (stations-append reports (last ∷ [])) ∙ appends (stations_of reports) (stations_of (last ∷ []))))))
 
   -- a report more at the end
-  pub joined_last : (before now after : Parts P S R N K) (reports : List (Report P S R N K)) (last : Report P S R N K) → IsJoined before reports now → IsJoined now (last ∷ []) after → IsJoined before (reports ++ last ∷ []) after
+  pub joined_last : (before now after : Parts P S R N K) (reports : List (Report P S R N K)) (last : Report P S R N K) → IsJoined before reports now
+      → IsJoined now (last ∷ []) after → IsJoined before (reports ++ last ∷ []) after
   joined_last before now after reports last a b =
       let e = stations-append reports (last ∷ []) in
       record {
@@ -61,7 +63,8 @@ module _ {P S R N K : Type 0} where
   }
 
   -- the reports behind the first one
-  pub parts-joined : (reports : List (Report P S R N K)) (first : Report P S R N K) (rest : List (Report P S R N K)) (begun parts : Parts P S R N K) → reports ≡ first ∷ rest → IsFirst first begun → IsJoined begun rest parts → AreParts reports parts
+  pub parts-joined : (reports : List (Report P S R N K)) (first : Report P S R N K) (rest : List (Report P S R N K)) (begun parts : Parts P S R N K)
+      → reports ≡ first ∷ rest → IsFirst first begun → IsJoined begun rest parts → AreParts reports parts
   parts-joined reports first rest begun parts e a b =
       subst (λ (rs : List (Report P S R N K)). AreParts rs parts) (sym e) record {
         first = first;

@@ -1,5 +1,5 @@
 -- The cover of a tree and the causes of its cuts say how far the best visit is from the best node.
-use Rattle.std.proofs.Common.{◌≡◌, ℕ, zero, suc, ◌+◌, ◌<◌, ◌≤◌, ◌⊎◌, Bool, true, false, List, [], ◌∷◌, ◌++◌, ◌∙◌, Option, Some, None, if◌then◌else◌, map, max, slice_get, refl, sym, ap, subst, arith, ⊎_elim}
+use Rattle.std.proofs.Common.{◌≡◌, ℕ, zero, suc, ◌+◌, ◌≤◌, ◌⊎◌, List, [], ◌∷◌, ◌++◌, ◌∙◌, Option, Some, None, if◌then◌else◌, max, slice_get, refl, sym, ap, arith, ⊎_elim}
 use Rattle.std.specs.List.{AllByRecursion, Contains, flat_map}
 use Rattle.std.proofs.lemmas.List.Elements.{All-contains, All-from_recursion}
 use Rattle.std.specs.Option.{option_map}
@@ -18,7 +18,8 @@ use Rattle.yew_log.specs.Attained.{Attained, limit}
 use Rattle.yew_log.specs.Notes.{Judgement, paths, values, maximum}
 
 -- a node further down
-node_at-further : {N : Type 0} (children : N → List N) (start n : N) (path rest : List ℕ) → node_at children start path ≡ Some n → node_at children start (path ++ rest) ≡ node_at children n rest
+node_at-further : {N : Type 0} (children : N → List N) (start n : N) (path rest : List ℕ) → node_at children start path ≡ Some n
+    → node_at children start (path ++ rest) ≡ node_at children n rest
 node_at-further children start n [] rest e = let same : start ≡ n = cc in ap (λ m. node_at children m rest) same
 node_at-further children start n (j ∷ js) rest e =
     option_and_then_some (λ d. node_at children d js) (slice_get (children start) j) n e
@@ -70,7 +71,8 @@ module _ {N : Type 0} (t : SearchTree N) {sound : N → Type 0} (ranked : IsRank
       (All-from_recursion (λ (m : Member N). t.worth m.node ≤ greatest t) (preorder t) (greatest_of-bounds t.worth (preorder t))) (tree-contains ranked path t.root n root_sound e)
 
   -- below a node no worth is above its bound
-  below-at_most : (b : ℕ) (path : List ℕ) (found : Option N) → at_path t path ≡ found → ((n : N) → found ≡ Some n → t.bound n ≤ b) → AllByRecursion (AtMost b) (below_node t path found)
+  below-at_most : (b : ℕ) (path : List ℕ) (found : Option N) → at_path t path ≡ found → ((n : N) → found ≡ Some n → t.bound n ≤ b)
+      → AllByRecursion (AtMost b) (below_node t path found)
   below-at_most b path None e le = tt
   below-at_most b path (Some n) e le =
       let s = at_path-sound path n e in
@@ -101,12 +103,15 @@ module _ {N : Type 0} (t : SearchTree N) {sound : N → Type 0} (ranked : IsRank
         values-below : (vs : List Judgement) (top : ℕ) → AllByRecursion (λ n. n ≤ top) (values vs) → AllByRecursion (λ (v : Judgement). v.value ≤ top) vs
         values-below [] top a = tt
         values-below (v ∷ vs) top a = (a.0, values-below vs top a.1)
+
         own-limit : (gap top : ℕ) → top ≤ limit gap top
         own-limit gap zero = omega arith
         own-limit gap (suc top) = let a = limit-positive gap top in omega arith
 
     -- what a cut hides is at most what the best visit permits
-    hidden-at_most : (cs : List Judgement) → AllByRecursion (λ (c : Judgement). bound_at t c.path ≡ Some c.value) cs → AllByRecursion (λ (c : Judgement). c.value ≤ limit gap c.held) cs → AllByRecursion (λ (c : Judgement). (c.held ≡ 0) ⊎ Contains (values visits) c.held) cs
+    hidden-at_most : (cs : List Judgement) → AllByRecursion (λ (c : Judgement). bound_at t c.path ≡ Some c.value) cs
+        → AllByRecursion (λ (c : Judgement). c.value ≤ limit gap c.held) cs
+        → AllByRecursion (λ (c : Judgement). (c.held ≡ 0) ⊎ Contains (values visits) c.held) cs
         → AllByRecursion (AtMost (limit gap (maximum (values visits)))) (flat_map (below t) (paths cs))
     hidden-at_most [] b p a = tt
     hidden-at_most (c ∷ cs) b p a =
@@ -131,10 +136,14 @@ module _ {N : Type 0} (t : SearchTree N) {sound : N → Type 0} (ranked : IsRank
         let everywhere : AllByRecursion (AtMost top) (tree_paths t) = part-all is_path is_path-same is_path-is (AtMost top) (same-part (same-sym cover.each_once)) covered in
         greatest_of-least t.worth (preorder t) top (members-low (preorder t) everywhere (tree-node_at ranked t.root root_sound))
       where
-        all-behind : (vs cs : List Judgement) → AllByRecursion (λ (j : Judgement). (j.held ≡ 0) ⊎ Contains (values visits) j.held) (vs ++ cs) → AllByRecursion (λ (j : Judgement). (j.held ≡ 0) ⊎ Contains (values visits) j.held) cs
+        all-behind : (vs cs : List Judgement) → AllByRecursion (λ (j : Judgement). (j.held ≡ 0) ⊎ Contains (values visits) j.held) (vs ++ cs)
+            → AllByRecursion (λ (j : Judgement). (j.held ≡ 0) ⊎ Contains (values visits) j.held) cs
         all-behind [] cs a = a
         all-behind (v ∷ vs) cs a = all-behind vs cs a.1
-        members-low : (ms : List (Member N)) → AllByRecursion (AtMost (limit gap (maximum (values visits)))) (member_paths (prefixed [] ms)) → AllByRecursion (λ (m : Member N). node_at t.children t.root m.path ≡ Some m.node) ms → AllByRecursion (λ (m : Member N). t.worth m.node ≤ limit gap (maximum (values visits))) ms
+
+        members-low : (ms : List (Member N)) → AllByRecursion (AtMost (limit gap (maximum (values visits)))) (member_paths (prefixed [] ms))
+            → AllByRecursion (λ (m : Member N). node_at t.children t.root m.path ≡ Some m.node) ms
+            → AllByRecursion (λ (m : Member N). t.worth m.node ≤ limit gap (maximum (values visits))) ms
         members-low [] a at = tt
         members-low (m ∷ ms) a at = (a.0 m.node at.0, members-low ms a.1 at.1)
 

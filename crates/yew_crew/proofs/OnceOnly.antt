@@ -1,15 +1,13 @@
 -- In the log of a worker no path is taken, judged, sent or ended twice, also where workers did not come to their ends: what all took is the root's task and what all sent.
-use Rattle.std.proofs.Common.{◌≡◌, ℕ, zero, suc, ◌+◌, ◌-◌, ◌<◌, ◌≤◌, ◌⊎◌, Bool, true, false, cond, Option, Some, None, List, [], ◌∷◌, ◌++◌, ◌∙◌, refl, sym, ap, subst, arith, append_assoc, append-nil, ⊎_elim}
+use Rattle.std.proofs.Common.{◌≡◌, ℕ, zero, suc, ◌+◌, ◌-◌, ◌<◌, ◌≤◌, Option, Some, None, List, [], ◌∷◌, ◌++◌, ◌∙◌, refl, sym, ap, subst, arith, append_assoc, ⊎_elim}
 use Rattle.std.specs.Prelude.{IsSome}
 use Rattle.std.specs.List.{AllByRecursion, Contains, flat_map, sum_by}
 use Rattle.std.proofs.lemmas.List.{map-append}
-use Rattle.std.specs.Option.{option_map}
-use Rattle.std.proofs.lemmas.Option.{none-some}
 use Rattle.std.proofs.lemmas.List.Sums.{sum_by-append, sum_by-cons}
 use Rattle.std.proofs.lemmas.List.Concat.{flat_map-append}
 use Rattle.yew_laws.specs.Bag.{PartOfBag}
 use Rattle.yew_laws.specs.Order.{only, occurs, is_path}
-use Rattle.yew_laws.specs.SearchTree.{SearchTree, at_path, bound_at, below, numbered, tree_paths}
+use Rattle.yew_laws.specs.SearchTree.{SearchTree, at_path, below, numbered}
 use Rattle.yew_laws.specs.Tree.{IsRanked, IsBounded}
 use Rattle.yew_laws.proofs.Bags.{sum_by-flat_map, only-itself}
 use Rattle.yew_laws.proofs.Below.{below-unfolds}
@@ -18,7 +16,7 @@ use Rattle.yew_laws.proofs.PathTests.{is_path-same, is_path-is}
 use Rattle.yew_laws.proofs.Weights.{all-weighs, contains-has_weight}
 use Rattle.yew_log.specs.Notes.{Note, Judgement, taken, visited, cut, spawned, handed, ended, path_of, judgements, paths, visits, cuts, taken_paths, visited_paths, cut_paths, sent_paths, ended_paths, taken_in, sent_in, ended_in, visit_in, judgement_in}
 use Rattle.yew_log.specs.Places.{AtEach}
-use Rattle.yew_log.specs.Segment.{Segment, entries, entries_in, IsBroken, Begins, EndsVisits, OneOfAKind, covered_paths}
+use Rattle.yew_log.specs.Segment.{Segment, entries, entries_in, IsBroken, Begins, OneOfAKind}
 use Rattle.yew_crew.proofs.CrewClosed.{cut-there, cut-below, own-below}
 use Rattle.yew_crew.proofs.NearBest.{at_path-sound}
 
@@ -47,11 +45,14 @@ judged-parts path (cut q w h ∷ ns) =
     let a = sum_by-cons (only path) q (paths (judgements ns)) in let b = sum_by-cons (only path) q (cut_paths ns) in let c = judged-parts path ns in omega arith
 
 -- an ended path was visited
-ended-visited : (path : List ℕ) (before notes : List Note) → AtEach (λ b n a. AllByRecursion (λ p. Contains (visited_paths b) p) (ended_in n)) before notes → 0 < occurs path (ended_paths notes) → 0 < occurs path (visited_paths (before ++ notes))
+ended-visited : (path : List ℕ) (before notes : List Note)
+    → AtEach (λ b n a. AllByRecursion (λ p. Contains (visited_paths b) p) (ended_in n)) before notes → 0 < occurs path (ended_paths notes)
+    → 0 < occurs path (visited_paths (before ++ notes))
 ended-visited path before [] at more = absurd (omega arith)
 ended-visited path before (n ∷ ns) at more = by (occurs path (ended_in n)) refl (λ h. ended-visited path (before ++ n ∷ []) ns at.1 h)
   where
-    by : (k : ℕ) → occurs path (ended_in n) ≡ k → (0 < occurs path (ended_paths ns) → 0 < occurs path (visited_paths ((before ++ n ∷ []) ++ ns))) → 0 < occurs path (visited_paths (before ++ n ∷ ns))
+    by : (k : ℕ) → occurs path (ended_in n) ≡ k → (0 < occurs path (ended_paths ns) → 0 < occurs path (visited_paths ((before ++ n ∷ []) ++ ns)))
+        → 0 < occurs path (visited_paths (before ++ n ∷ ns))
     by zero e rec =
         let parts = sum_by-append (only path) (ended_in n) (ended_paths ns) in
         let later = rec (omega arith) in
@@ -101,7 +102,8 @@ module _ {N : Type 0} (t : SearchTree N) {sound : N → Type 0} (ranked : IsRank
     pub sent_is : sum_by (reach path) (sent_paths s.body) ≡ sum_by (strict path) (sent_paths s.body) + occurs path (sent_paths s.body)
 
   -- each sent path lies at itself
-  sent-strict : (path : List ℕ) (notes : List Note) → AllByRecursion (λ note. IsSome (at_path t (path_of note))) notes → sum_by (reach path) (sent_paths notes) ≡ sum_by (strict path) (sent_paths notes) + occurs path (sent_paths notes)
+  sent-strict : (path : List ℕ) (notes : List Note) → AllByRecursion (λ note. IsSome (at_path t (path_of note))) notes
+      → sum_by (reach path) (sent_paths notes) ≡ sum_by (strict path) (sent_paths notes) + occurs path (sent_paths notes)
   sent-strict path [] a = refl
   sent-strict path (taken q ∷ ns) a = sent-strict path ns a.1
   sent-strict path (visited q w h ∷ ns) a = sent-strict path ns a.1
@@ -117,31 +119,34 @@ module _ {N : Type 0} (t : SearchTree N) {sound : N → Type 0} (ranked : IsRank
   segment-held : (path : List ℕ) (s : Segment) → IsBroken t s → (held : ℕ) × IsHeld path s held
   segment-held path s is = ⊎_elim
       (λ (none : s.body ≡ []).
-          let own = own-below t ranked bounded root_sound path s.task (there-itself s.task is.in_tree.0) in
-          let sent_none = ap (λ ns. sum_by (reach path) (sent_paths ns)) none in
-          let judged_none = ap (λ ns. occurs path (paths (judgements ns))) none in
-          let ended_none = ap (λ ns. occurs path (ended_paths ns)) none in
-          (reach path s.task, record { within = omega arith; of_task = own; of_judged = omega arith; of_ended = omega arith; sent_is = sent-strict path s.body is.in_tree.1 }))
+      let own = own-below t ranked bounded root_sound path s.task (there-itself s.task is.in_tree.0) in
+      let sent_none = ap (λ ns. sum_by (reach path) (sent_paths ns)) none in
+      let judged_none = ap (λ ns. occurs path (paths (judgements ns))) none in
+      let ended_none = ap (λ ns. occurs path (ended_paths ns)) none in
+      (reach path s.task, record { within = omega arith; of_task = own; of_judged = omega arith; of_ended = omega arith; sent_is = sent-strict path s.body is.in_tree.1 }))
       (λ (begins : Begins s.task s.body).
-          let vs = visited_paths s.body in let cs = cut_paths s.body in let ss = sent_paths s.body in
-          let held = occurs path vs + occurs path (flat_map (below t) cs) in
-          let part = is.part_covered.weighs (only path) in
-          let a = sum_by-append (only path) vs (flat_map (below t) (cs ++ ss)) in
-          let b = ap (occurs path) (flat_map-append (below t) cs ss) in
-          let c = sum_by-append (only path) (flat_map (below t) cs) (flat_map (below t) ss) in
-          let d = sum_by-flat_map (only path) (below t) ss in
-          let low = cut-below t ranked bounded root_sound cs path (cut-there t ranked bounded root_sound (cuts s.body) is.valued.bounds) in
-          let j = judged-parts path s.body in
-          (held, record {
-            within = omega arith;
-            of_task = begun s.body begins (cut-there t ranked bounded root_sound (cuts s.body) is.valued.bounds);
-            of_judged = omega arith;
-            of_ended = ended-low;
-            sent_is = sent-strict path s.body is.in_tree.1;
-          }))
+      let vs = visited_paths s.body in let cs = cut_paths s.body in let ss = sent_paths s.body in
+      let held = occurs path vs + occurs path (flat_map (below t) cs) in
+      let part = is.part_covered.weighs (only path) in
+      let a = sum_by-append (only path) vs (flat_map (below t) (cs ++ ss)) in
+      let b = ap (occurs path) (flat_map-append (below t) cs ss) in
+      let c = sum_by-append (only path) (flat_map (below t) cs) (flat_map (below t) ss) in
+      let d = sum_by-flat_map (only path) (below t) ss in
+      let low = cut-below t ranked bounded root_sound cs path (cut-there t ranked bounded root_sound (cuts s.body) is.valued.bounds) in
+      let j = judged-parts path s.body in (
+        held,
+        record {
+          within = omega arith;
+          of_task = begun s.body begins (cut-there t ranked bounded root_sound (cuts s.body) is.valued.bounds);
+          of_judged = omega arith;
+          of_ended = ended-low;
+          sent_is = sent-strict path s.body is.in_tree.1;
+        },
+      ))
       is.begins
     where
-      begun : (body : List Note) → Begins s.task body → AllByRecursion (λ c. 0 < occurs c (below t c)) (cut_paths body) → only path s.task ≤ occurs path (visited_paths body) + occurs path (flat_map (below t) (cut_paths body))
+      begun : (body : List Note) → Begins s.task body → AllByRecursion (λ c. 0 < occurs c (below t c)) (cut_paths body)
+          → only path s.task ≤ occurs path (visited_paths body) + occurs path (flat_map (below t) (cut_paths body))
       begun [] b a = absurd b
       begun (taken q ∷ ns) b a = absurd b
       begun (spawned q ∷ ns) b a = absurd b
@@ -151,18 +156,22 @@ module _ {N : Type 0} (t : SearchTree N) {sound : N → Type 0} (ranked : IsRank
       begun (cut q w h ∷ ns) b a =
           let x = sum_by-append (only path) (below t q) (flat_map (below t) (cut_paths ns)) in
           let o = own-below t ranked bounded root_sound path q a.0 in let e = ap (only path) b in omega arith
+
       ended-low : occurs path (ended_paths s.body) ≤ occurs path (visited_paths s.body) + occurs path (flat_map (below t) (cut_paths s.body))
       ended-low = by (occurs path (ended_paths s.body)) refl
         where
-          by : (k : ℕ) → occurs path (ended_paths s.body) ≡ k → occurs path (ended_paths s.body) ≤ occurs path (visited_paths s.body) + occurs path (flat_map (below t) (cut_paths s.body))
+          by : (k : ℕ) → occurs path (ended_paths s.body) ≡ k
+              → occurs path (ended_paths s.body) ≤ occurs path (visited_paths s.body) + occurs path (flat_map (below t) (cut_paths s.body))
           by zero e = omega arith
           by (suc k) e = let once = is.one_of_a_kind.ended_once path in let v = ended-visited path [] s.body is.ends (omega arith) in omega arith
 
   -- what is read of the entries of a segment and of those after it
-  parts : (h : List ℕ → ℕ) (f : Note → List (List ℕ)) (s : Segment) (ss : List Segment) → sum_by h (flat_map f (entries (s ∷ ss))) ≡ sum_by h (flat_map f (entries_in s)) + sum_by h (flat_map f (entries ss))
+  parts : (h : List ℕ → ℕ) (f : Note → List (List ℕ)) (s : Segment) (ss : List Segment)
+      → sum_by h (flat_map f (entries (s ∷ ss))) ≡ sum_by h (flat_map f (entries_in s)) + sum_by h (flat_map f (entries ss))
   parts h f s ss = ap (sum_by h) (flat_map-append f (entries_in s) (entries ss)) ∙ sum_by-append h (flat_map f (entries_in s)) (flat_map f (entries ss))
 
-  judged-split : (path : List ℕ) (s : Segment) (ss : List Segment) → occurs path (paths (judgements (entries (s ∷ ss)))) ≡ occurs path (paths (judgements s.body)) + occurs path (paths (judgements (entries ss)))
+  judged-split : (path : List ℕ) (s : Segment) (ss : List Segment)
+      → occurs path (paths (judgements (entries (s ∷ ss)))) ≡ occurs path (paths (judgements s.body)) + occurs path (paths (judgements (entries ss)))
   judged-split path s ss =
       ap (λ js. occurs path (paths js)) (flat_map-append judgement_in (entries_in s) (entries ss))
       ∙ (ap (occurs path) (map-append (λ (j : Judgement). j.path) (judgements s.body) (judgements (entries ss))) ∙ sum_by-append (only path) (paths (judgements s.body)) (paths (judgements (entries ss))))
@@ -212,7 +221,8 @@ module _ {N : Type 0} (t : SearchTree N) {sound : N → Type 0} (ranked : IsRank
     pub sent_strict : sum_by (strict path) (all_sent ds) ≤ sum_by (strict path) (noted_sent ds)
     pub each : AllByRecursion (Few path held (occurs path (noted_sent ds))) ds
 
-  few-more : (path : List ℕ) (held sent held' sent' : ℕ) → held ≤ held' → sent ≤ sent' → (ds : List Doing) → AllByRecursion (Few path held sent) ds → AllByRecursion (Few path held' sent') ds
+  few-more : (path : List ℕ) (held sent held' sent' : ℕ) → held ≤ held' → sent ≤ sent' → (ds : List Doing) → AllByRecursion (Few path held sent) ds
+      → AllByRecursion (Few path held' sent') ds
   few-more path held sent held' sent' a b [] each = tt
   few-more path held sent held' sent' a b (d ∷ ds) each =
       let k = each.0.0 in let l = each.0.1 in let m = each.0.2 in let n = each.0.3 in
@@ -231,15 +241,17 @@ module _ {N : Type 0} (t : SearchTree N) {sound : N → Type 0} (ranked : IsRank
       let a = sum_by-append (reach path) (sent_paths d.notes) (noted_sent ds) in let b = sum_by-append (strict path) (sent_paths d.notes) (noted_sent ds) in
       let c = sum_by-append (only path) (sent_paths d.notes) (noted_sent ds) in
       let e = sum_by-append (reach path) d.took (all_took ds) in let f = sum_by-append (strict path) d.took (all_took ds) in
-      let g = sum_by-append (reach path) d.sent (all_sent ds) in let h = sum_by-append (strict path) d.sent (all_sent ds) in
-      (own.0 + later.0, record {
-        within = omega arith;
-        strict_within = omega arith;
-        sent_is = omega arith;
-        sent_reach = omega arith;
-        sent_strict = omega arith;
-        each = ((omega arith, omega arith, omega arith, omega arith), few-more path later.0 (occurs path (noted_sent ds)) (own.0 + later.0) (occurs path (noted_sent (d ∷ ds))) (omega arith) (omega arith) ds l.each);
-      })
+      let g = sum_by-append (reach path) d.sent (all_sent ds) in let h = sum_by-append (strict path) d.sent (all_sent ds) in (
+        own.0 + later.0,
+        record {
+          within = omega arith;
+          strict_within = omega arith;
+          sent_is = omega arith;
+          sent_reach = omega arith;
+          sent_strict = omega arith;
+          each = ((omega arith, omega arith, omega arith, omega arith), few-more path later.0 (occurs path (noted_sent ds)) (own.0 + later.0) (occurs path (noted_sent (d ∷ ds))) (omega arith) (omega arith) ds l.each);
+        },
+      )
 
   -- no path stands twice in the entries of one kind of one worker, where all that was taken is the root's task and what was sent
   few-ones : (path : List ℕ) (ds : List Doing) → AllByRecursion (IsDoing t) ds → PartOfBag (all_took ds) ([] ∷ all_sent ds) → AllByRecursion (Few path 1 1) ds
@@ -251,7 +263,8 @@ module _ {N : Type 0} (t : SearchTree N) {sound : N → Type 0} (ranked : IsRank
       let a = sum_by-cons (reach path) [] (all_sent ds) in let b = sum_by-cons (strict path) [] (all_sent ds) in
       few-more path all.0 (occurs path (noted_sent ds)) 1 1 (omega arith) (omega arith) ds k.each
 
-  pub once-only : (ds : List Doing) → AllByRecursion (IsDoing t) ds → PartOfBag (all_took ds) ([] ∷ all_sent ds) → AllByRecursion (λ (d : Doing). OneOfAKind d.notes) ds
+  pub once-only : (ds : List Doing) → AllByRecursion (IsDoing t) ds → PartOfBag (all_took ds) ([] ∷ all_sent ds)
+      → AllByRecursion (λ (d : Doing). OneOfAKind d.notes) ds
   once-only ds are part = by ds (λ path. few-ones path ds are part)
     where
       by : (ds : List Doing) → ((path : List ℕ) → AllByRecursion (Few path 1 1) ds) → AllByRecursion (λ (d : Doing). OneOfAKind d.notes) ds

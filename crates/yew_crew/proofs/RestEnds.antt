@@ -1,8 +1,7 @@
 -- The first worker, with the segments of rest that the caller walked in its place; and all others.
-use Rattle.std.proofs.Common.{◌≡◌, ◌≢◌, ℕ, suc, ◌+◌, ◌<◌, ◌≤◌, ◌⊎◌, true, false, List, [], ◌∷◌, ◌++◌, ◌∙◌, map, length, refl, sym, ap, ap₂, subst, arith, inl, inr, ⊎_elim, append-nil}
+use Rattle.std.proofs.Common.{◌≡◌, ◌≢◌, ℕ, suc, ◌<◌, ◌⊎◌, false, List, [], ◌∷◌, ◌++◌, ◌∙◌, refl, sym, ap, ap₂, subst, arith, inl, inr, ⊎_elim, append-nil}
 use Rattle.std.specs.Prelude.{IfSome}
-use Rattle.std.specs.List.{AllByRecursion, flat_map}
-use Rattle.std.proofs.lemmas.List.{map-append}
+use Rattle.std.specs.List.{AllByRecursion}
 use Rattle.std.proofs.lemmas.List.Sums.{sum_by-cons}
 use Rattle.std.proofs.lemmas.List.Concat.{flat_map-append}
 use Rattle.yew_laws.specs.Bag.{SameBag}
@@ -12,13 +11,13 @@ use Rattle.yew_laws.specs.SearchTree.{SearchTree}
 use Rattle.yew_laws.proofs.Bags.{same-is, same-sym, same-trans, same-append, only-itself}
 use Rattle.yew_log.specs.Groups.{HasGroups, NoGroup, SkeletonGroup}
 use Rattle.yew_log.specs.HeldValues.{plain, IsLater, HeldIsMaximum, IsJudged}
-use Rattle.yew_log.specs.Lawful.{LawfulLog, AreWalks, IsRest, MayRest, tasks_of}
+use Rattle.yew_log.specs.Lawful.{AreWalks, IsRest, MayRest, tasks_of}
 use Rattle.yew_log.specs.Notes.{Note, visits, cuts, judgements, visit_in, cut_in, taken_in, sent_in, event_in, taken_paths, sent_paths}
 use Rattle.yew_log.specs.Places.{AtEach}
 use Rattle.yew_log.specs.Segment.{Segment, entries, entries_in}
 use Rattle.yew_log.specs.Totals.{no_totals}
 use Rattle.yew_log.proofs.Walks.{walks-append}
-use Rattle.yew_walk.specs.LogViews.{LogView, log_after}
+use Rattle.yew_walk.specs.LogViews.{log_after}
 use Rattle.yew_walk.specs.Hands.{incumbent_of, best_after}
 use Rattle.yew_walk.specs.declared.hand.Hand.{Hand}
 use Rattle.yew_walk.specs.declared.keying.Keying.TheVariants.{Plain}
@@ -33,7 +32,7 @@ use Rattle.yew_crew.specs.declared.coord.Coord.TheVariants.{Depth, Budget, Steal
 use Rattle.yew_crew.specs.declared.station.Station.{Station}
 use Rattle.yew_crew.proofs.BestFinds.{nothing, not_holding}
 use Rattle.yew_crew.proofs.CrewWork.{group-fits}
-use Rattle.yew_crew.proofs.Finished.{Finish, IsFinished, AreFinished, all_of}
+use Rattle.yew_crew.proofs.Finished.{Finish, IsFinished, AreFinished}
 use Rattle.yew_crew.proofs.GroupLaws.{same-deals}
 use Rattle.yew_crew.proofs.SegmentSums.{taken-segments}
 use Rattle.yew_crew.proofs.WorkEnds.{plain-kind, any-shape, new-log, sent-parts, finish, done-finished}
@@ -50,7 +49,8 @@ any-groups before (note ∷ notes) = (units (event_in note), any-groups (before 
     units [] = tt
     units (p ∷ ps) = (tt, units ps)
 
-with-any : {N : Type 0} (t : SearchTree N) (gap : ℕ) (rule : List Note → Note → List Note → Type 0) (segments : List Segment) → AreWalks t gap plain rule segments → AreWalks t gap plain AnyGroup segments
+with-any : {N : Type 0} (t : SearchTree N) (gap : ℕ) (rule : List Note → Note → List Note → Type 0) (segments : List Segment)
+    → AreWalks t gap plain rule segments → AreWalks t gap plain AnyGroup segments
 with-any t gap rule segments walks = record { each = walks.each; groups = all segments; held_rises = walks.held_rises; due = walks.due }
   where
     all : (segments : List Segment) → AllByRecursion (λ (x : Segment). HasGroups AnyGroup x.body) segments
@@ -64,7 +64,8 @@ not-root (x ∷ xs) none =
     let c = sum_by-cons (only []) x.task (tasks_of xs) in
     ((λ e. (let o = only-itself [] in let k : ◌≡◌ {A = ℕ} (only [] x.task) 1 = ap (only []) e ∙ o in absurd (omega arith))), not-root xs (omega arith))
 
-rest-segments : (segments : List Segment) → AllByRecursion (λ (x : Segment). x.task ≢ []) segments → AllByRecursion (λ (x : Segment). HasGroups NoGroup x.body) segments → AllByRecursion IsRest segments
+rest-segments : (segments : List Segment) → AllByRecursion (λ (x : Segment). x.task ≢ []) segments
+    → AllByRecursion (λ (x : Segment). HasGroups NoGroup x.body) segments → AllByRecursion IsRest segments
 rest-segments [] a b = tt
 rest-segments (x ∷ xs) a b = ((a.0, b.0), rest-segments xs a.1 b.1)
 
@@ -94,7 +95,8 @@ module _ {S R N : Type 0} (s : Searched S R N) where
 
 module _ {P S R N K : Type 0} (s : Searched S R N) (workers : ℕ) {fits : S → Type 0} (tally : IsTally fits s.join s.none) (of_fits : (n : N) (depth : ℕ) → fits (s.of n depth)) where
   -- the first worker, with what the caller walked in its place
-  pub first-finished : (before after : Station P S R N K) (hand : Hand S) (log : R) → (done : IsDone s before after) → (rest : IsRestWork s (entries done.segments.segments) after.hand after.log hand log)
+  pub first-finished : (before after : Station P S R N K) (hand : Hand S) (log : R) → (done : IsDone s before after)
+      → (rest : IsRestWork s (entries done.segments.segments) after.hand after.log hand log)
       → before.hand.sum ≡ s.none → before.hand.holds ≡ false → IfSome (s.seen before.log).told (λ ns. ns ≡ []) → (s.seen before.log).totals ≡ no_totals → (s.seen before.log).number ≡ 1
       → occurs [] (taken rest.group) ≡ 0 → (rest.segments ≡ []) ⊎ (1 < workers) → (workers ≡ 1 → IsAlone before)
       → IsFinished s workers 1 (record { group = together s.join done.work.group rest.group; notes = entries (done.segments.segments ++ rest.segments); hand = hand; log = log })
@@ -132,7 +134,7 @@ module _ {P S R N K : Type 0} (s : Searched S R N) (workers : ℕ) {fits : S →
               (λ (h : 1 < workers). absurd (omega arith)) several;
         };
         log_is = subst (λ ns. IsLogOf 1 ns (s.seen log)) (sym parts) (new-log 1 (s.seen before.log) (s.seen log) (entries own ++ entries more) told totals number_is
-        (rest.log_is ∙ (ap (λ l. log_after l (entries more)) segs.log_is ∙ sym (log_after-append (s.seen before.log) (entries own) (entries more)))));
+            (rest.log_is ∙ (ap (λ l. log_after l (entries more)) segs.log_is ∙ sym (log_after-append (s.seen before.log) (entries own) (entries more)))));
         best_is =
             rest.best_is ∙ (ap (λ i. best_after Plain i r.visits) (done.hand.best_is ∙ ap (λ i. best_after Plain i g.visits) (not_holding before.hand holds_none)) ∙ sym (best_after-append Plain nothing g.visits r.visits));
         sum_is = rest.sum_is ∙ ap (λ x. s.join x r.sum) (done.work.sum_is ∙ (ap (λ x. s.join x g.sum) sum_none ∙ tally.unit g.sum (group-fits s tally of_fits g done.work.balanced)));
@@ -159,7 +161,8 @@ module _ {P S R N K : Type 0} (s : Searched S R N) (workers : ℕ) {fits : S →
   finishes number (before ∷ befores) [] are = []
   finishes number (before ∷ befores) (after ∷ afters) are = finish are.0.1.work.group are.0.1.segments.segments after ∷ finishes (suc number) befores afters are.1
 
-  pub others-finished : (number : ℕ) (befores afters : List (Station P S R N K)) (are : AreDone number befores afters) → (workers ≡ 1 → AllByRecursion IsAlone befores) → AreFinished s workers number (finishes number befores afters are)
+  pub others-finished : (number : ℕ) (befores afters : List (Station P S R N K)) (are : AreDone number befores afters)
+      → (workers ≡ 1 → AllByRecursion IsAlone befores) → AreFinished s workers number (finishes number befores afters are)
   others-finished number [] [] are alone = tt
   others-finished number [] (a ∷ afters) are alone = tt
   others-finished number (b ∷ befores) [] are alone = tt

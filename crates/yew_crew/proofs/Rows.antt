@@ -15,7 +15,8 @@ all_but_last Q [] x a = (tt, a.0)
 all_but_last Q (y ∷ ys) x a = let rest = all_but_last Q ys x a.1 in ((a.0, rest.0), rest.1)
 
 -- where each report, place by place, is that of its station, there is one report for each station
-pub are_reports : {P S R N K : Type 0} (s : Searched S R N) (stations : List (Station P S R N K)) (reports : List (Report P S R N K)) → length reports ≡ length stations
+pub are_reports : {P S R N K : Type 0} (s : Searched S R N) (stations : List (Station P S R N K)) (reports : List (Report P S R N K))
+    → length reports ≡ length stations
     → ((i : ℕ) (d : Station P S R N K) (e : Report P S R N K) → i < length stations → IsReport s (slice_index_or stations i d) (slice_index_or reports i e)) → AreReports s stations reports
 are_reports s [] [] len each = tt
 are_reports s [] (r ∷ rs) len each = absurd (omega arith)

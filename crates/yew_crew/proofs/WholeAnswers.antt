@@ -1,6 +1,6 @@
 -- What a whole search answers: from the cover of the tree, the causes of its cuts, the best of its visits and their sum.
-use Rattle.std.proofs.Common.{◌≡◌, ℕ, zero, suc, ◌+◌, ◌<◌, ◌≤◌, ◌⊎◌, Bool, true, false, List, [], ◌∷◌, ◌++◌, ◌∙◌, Option, Some, None, length, map, nat_le, if◌then◌else◌, refl, sym, ap, ap₂, subst, arith, inl, inr, ⊎_elim, append-nil}
-use Rattle.std.specs.Prelude.{◌↔◌, IsNone, IsSome, IfSome, IsSomeAnd}
+use Rattle.std.proofs.Common.{◌≡◌, ℕ, zero, suc, ◌+◌, ◌≤◌, ◌⊎◌, List, [], ◌∷◌, ◌++◌, ◌∙◌, Option, Some, None, length, if◌then◌else◌, refl, sym, ap, ap₂, arith, inl, inr, ⊎_elim, append-nil}
+use Rattle.std.specs.Prelude.{IsNone, IfSome}
 use Rattle.std.specs.List.{AllByRecursion, Contains, flat_map}
 use Rattle.std.specs.Option.{option_map}
 use Rattle.std.proofs.lemmas.List.Elements.{All-contains, All-from_recursion}
@@ -8,12 +8,11 @@ use Rattle.std.proofs.lemmas.Option.{none-some}
 use Rattle.yew_laws.specs.Bag.{SameBag}
 use Rattle.yew_laws.specs.Cover.{Cover}
 use Rattle.yew_laws.specs.Fold.{Fold, fold_of, of_member, IsTally}
-use Rattle.yew_laws.specs.Greatest.{greatest}
 use Rattle.yew_laws.specs.Incumbent.{Incumbent}
 use Rattle.yew_laws.specs.Order.{is_path}
 use Rattle.yew_laws.specs.PathValue.{PathValue}
-use Rattle.yew_laws.specs.SearchTree.{SearchTree, preorder, at_path, worth_at, bound_at, below, tree_paths}
-use Rattle.yew_laws.specs.Tree.{Member, paths as member_paths, prefixed, IsRanked, IsBounded}
+use Rattle.yew_laws.specs.SearchTree.{SearchTree, preorder, at_path, worth_at, bound_at, below}
+use Rattle.yew_laws.specs.Tree.{Member, paths as member_paths, IsRanked, IsBounded}
 use Rattle.yew_laws.proofs.Bags.{same-is, same-trans}
 use Rattle.yew_laws.proofs.Folds.{fold-SameBag}
 use Rattle.yew_laws.proofs.Incumbents.{prefixed-nil}
@@ -52,15 +51,20 @@ module _ {N : Type 0} (t : SearchTree N) {sound : N → Type 0} (ranked : IsRank
         has_worth = worth path path_is best.named;
       }
     where
-      unnamed : (path : Option PathValue) → IsNone path → numbers_of path ≡ found.path → (found ≡ nothing) ⊎ ((v : Judgement) × IsNamedBy visits found v) → found.worth ≡ 0
+      unnamed : (path : Option PathValue) → IsNone path → numbers_of path ≡ found.path
+          → (found ≡ nothing) ⊎ ((v : Judgement) × IsNamedBy visits found v) → found.worth ≡ 0
       unnamed path h e (inl none) = ap (λ (i : Incumbent). i.worth) none
       unnamed None h e (inr named) = absurd (none-some named.0.path (e ∙ named.1.path_is))
       unnamed (Some p) h e (inr named) = absurd (cc)
-      unless : (path : Option PathValue) → numbers_of path ≡ found.path → found.worth ≡ 0 → (found ≡ nothing) ⊎ ((v : Judgement) × IsNamedBy visits found v) → IsNone path
+
+      unless : (path : Option PathValue) → numbers_of path ≡ found.path → found.worth ≡ 0
+          → (found ≡ nothing) ⊎ ((v : Judgement) × IsNamedBy visits found v) → IsNone path
       unless None e z named = refl
       unless (Some p) e z (inl none) = absurd (none-some p.numbers (sym (e ∙ ap (λ (i : Incumbent). i.path) none)))
       unless (Some p) e z (inr named) = absurd (let k = named.1.worth_is in let a = named.1.answers in omega arith)
-      worth : (path : Option PathValue) → numbers_of path ≡ found.path → (found ≡ nothing) ⊎ ((v : Judgement) × IsNamedBy visits found v) → IfSome path (λ p. worth_at t p.numbers ≡ Some found.worth)
+
+      worth : (path : Option PathValue) → numbers_of path ≡ found.path → (found ≡ nothing) ⊎ ((v : Judgement) × IsNamedBy visits found v)
+          → IfSome path (λ p. worth_at t p.numbers ≡ Some found.worth)
       worth None e named = tt
       worth (Some p) e (inl none) = absurd (none-some p.numbers (sym (e ∙ ap (λ (i : Incumbent). i.path) none)))
       worth (Some p) e (inr named) =
@@ -78,9 +82,11 @@ module _ {N : Type 0} (t : SearchTree N) (never : NeverCuts t) (gap : ℕ) (visi
   pub none-cut : (cuts : List Judgement) → Attained t gap visits cuts → cuts ≡ []
   none-cut cuts attained = none-of cuts attained.bounds attained.permitted (behind visits cuts attained.attained)
     where
-      behind : (vs cs : List Judgement) → AllByRecursion (λ (j : Judgement). (j.held ≡ 0) ⊎ Contains (values visits) j.held) (vs ++ cs) → AllByRecursion (λ (j : Judgement). (j.held ≡ 0) ⊎ Contains (values visits) j.held) cs
+      behind : (vs cs : List Judgement) → AllByRecursion (λ (j : Judgement). (j.held ≡ 0) ⊎ Contains (values visits) j.held) (vs ++ cs)
+          → AllByRecursion (λ (j : Judgement). (j.held ≡ 0) ⊎ Contains (values visits) j.held) cs
       behind [] cs a = a
       behind (v ∷ vs) cs a = behind vs cs a.1
+
       worthless : (vs : List Judgement) → AllByRecursion (λ (v : Judgement). worth_at t v.path ≡ Some v.value) vs → AllByRecursion (λ n. n ≤ 0) (values vs)
       worthless [] a = tt
       worthless (v ∷ vs) a = (own (at_path t v.path) refl, worthless vs a.1)
@@ -88,7 +94,10 @@ module _ {N : Type 0} (t : SearchTree N) (never : NeverCuts t) (gap : ℕ) (visi
           own : (found : Option N) → at_path t v.path ≡ found → v.value ≤ 0
           own None e = absurd (none-some v.value (sym (ap (option_map t.worth) e) ∙ a.0))
           own (Some n) e = let is : Some (t.worth n) ≡ Some v.value = sym (ap (option_map t.worth) e) ∙ a.0 in let same : t.worth n ≡ v.value = cc in let z = never.no_answer n in omega arith
-      none-of : (cs : List Judgement) → AllByRecursion (λ (c : Judgement). bound_at t c.path ≡ Some c.value) cs → AllByRecursion (λ (c : Judgement). c.value ≤ limit gap c.held) cs → AllByRecursion (λ (c : Judgement). (c.held ≡ 0) ⊎ Contains (values visits) c.held) cs → cs ≡ []
+
+      none-of : (cs : List Judgement) → AllByRecursion (λ (c : Judgement). bound_at t c.path ≡ Some c.value) cs
+          → AllByRecursion (λ (c : Judgement). c.value ≤ limit gap c.held) cs
+          → AllByRecursion (λ (c : Judgement). (c.held ≡ 0) ⊎ Contains (values visits) c.held) cs → cs ≡ []
       none-of [] b p a = refl
       none-of (c ∷ cs) b p a =
           let low = maximum-least (values visits) 0 (worthless visits attained.worths) in
@@ -117,12 +126,15 @@ module _ {N : Type 0} (t : SearchTree N) (never : NeverCuts t) (gap : ℕ) (visi
         by None = tally.none_fits
         by (Some n) = of_fits n (length path)
 
-    by_paths : (ms : List (Member N)) → AllByRecursion (λ m. at_path t m.path ≡ Some m.node) ms → fold_of join none (of_member of) ms ≡ fold_of join none of_path (member_paths ms)
+    by_paths : (ms : List (Member N)) → AllByRecursion (λ m. at_path t m.path ≡ Some m.node) ms
+        → fold_of join none (of_member of) ms ≡ fold_of join none of_path (member_paths ms)
     by_paths [] at = refl
     by_paths (m ∷ ms) at = ap₂ join (sym (ap (of_found m.path) at.0)) (by_paths ms at.1)
 
     -- the sum of the visited nodes is that of the tree
-    pub sum-whole : (cuts : List Judgement) (members : List (Member N)) → Cover t (paths visits) (paths cuts) → Attained t gap visits cuts → AllByRecursion (λ m. at_path t m.path ≡ Some m.node) members → member_paths members ≡ paths visits → fold_of join none (of_member of) members ≡ Fold t join none of
+    pub sum-whole : (cuts : List Judgement) (members : List (Member N)) → Cover t (paths visits) (paths cuts) → Attained t gap visits cuts
+        → AllByRecursion (λ m. at_path t m.path ≡ Some m.node) members → member_paths members ≡ paths visits
+        → fold_of join none (of_member of) members ≡ Fold t join none of
     sum-whole cuts members cover attained at paths_are =
         let no_cuts : paths cuts ≡ [] = ap paths (none-cut cuts attained) in
         let bag : SameBag (member_paths members) (member_paths (preorder t)) =

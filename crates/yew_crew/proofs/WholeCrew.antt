@@ -1,5 +1,5 @@
 -- A crew in which every worker came to its end: its logs are those of a whole search, its hands hold the best, and their sum is that of the tree where nothing is cut.
-use Rattle.std.proofs.Common.{◌≡◌, ◌≢◌, ℕ, suc, ◌+◌, ◌<◌, ◌≤◌, ◌⊎◌, true, false, List, [], ◌∷◌, ◌++◌, ◌∙◌, Option, Some, None, option_and_then, map, length, refl, sym, ap, ap₂, subst, arith, inl, inr, ⊎_elim}
+use Rattle.std.proofs.Common.{◌≡◌, ℕ, suc, ◌<◌, ◌⊎◌, List, [], ◌∷◌, ◌++◌, ◌∙◌, Option, Some, None, option_and_then, map, length, refl, sym, ap, subst, arith, inl, inr}
 use Rattle.std.specs.Prelude.{IfSome}
 use Rattle.std.specs.List.{AllByRecursion, Contains}
 use Rattle.std.proofs.lemmas.Option.{none-some}
@@ -9,16 +9,15 @@ use Rattle.yew_laws.specs.Incumbent.{Incumbent}
 use Rattle.yew_laws.specs.PathValue.{PathValue}
 use Rattle.yew_laws.specs.SearchTree.{SearchTree, at_path}
 use Rattle.yew_laws.specs.Tree.{IsRanked, IsBounded}
-use Rattle.yew_log.specs.Notes.{Note, Judgement, paths, values, maximum, visits}
-use Rattle.yew_log.specs.Segment.{Segment, entries}
-use Rattle.yew_log.specs.WholeSearch.{AreLogs, IsBestVisit, joined}
+use Rattle.yew_log.specs.Notes.{Note, Judgement, values, maximum, visits}
+use Rattle.yew_log.specs.Segment.{entries}
+use Rattle.yew_log.specs.WholeSearch.{IsBestVisit, joined}
 use Rattle.yew_walk.specs.Hands.{incumbent_of, numbers_of}
-use Rattle.yew_walk.specs.LogViews.{LogView}
 use Rattle.yew_walk.specs.PlainSearch.{NeverCuts}
 use Rattle.yew_walk.specs.declared.hand.Hand.{Hand}
 use Rattle.yew_crew.specs.CrewSearch.{IsNear, HasCrewLogs}
 use Rattle.yew_crew.specs.Gathering.{IsGathered}
-use Rattle.yew_crew.specs.Groups.{Group, taken, together, all_together, idle, IsBalanced, IsClosed}
+use Rattle.yew_crew.specs.Groups.{Group, taken, together, all_together, IsBalanced, IsClosed}
 use Rattle.yew_crew.specs.Crews.{AreWorked}
 use Rattle.yew_crew.specs.Reports.{IsDone, IsAlone}
 use Rattle.yew_crew.specs.Stations.{Searched, skeleton_of}
@@ -31,7 +30,8 @@ use Rattle.yew_crew.proofs.RestEnds.{IsRestWork, IsNew, AreDone, finishes, first
 use Rattle.yew_crew.proofs.WholeAnswers.{best-near, sum-whole}
 
 -- the node that an incumbent names is one of the best visits
-pub names-best : {N : Type 0} (t : SearchTree N) (notes : List Note) (vs : List Judgement) (found : Incumbent) (path : Option PathValue) → visits notes ≡ vs → IsBestOf vs found → numbers_of path ≡ found.path
+pub names-best : {N : Type 0} (t : SearchTree N) (notes : List Note) (vs : List Judgement) (found : Incumbent) (path : Option PathValue)
+    → visits notes ≡ vs → IsBestOf vs found → numbers_of path ≡ found.path
     → IfSome (option_and_then (λ (p : PathValue). at_path t p.numbers) path) (IsBestVisit t notes)
 names-best t notes vs found None is best e = tt
 names-best {N} t notes vs found (Some p) is best e = by (at_path t p.numbers) refl best.named
@@ -57,19 +57,22 @@ no-others (x ∷ xs) P workers count one = absurd (omega arith)
 
 module _ {P S R N K : Type 0} (s : Searched S R N) (workers : ℕ) {fits : S → Type 0} (tally : IsTally fits s.join s.none) (of_fits : (n : N) (depth : ℕ) → fits (s.of n depth)) where
   -- the groups of workers that came to their ends
-  pub done-worked : (number : ℕ) (befores afters : List (Station P S R N K)) (are : AreDone s workers tally of_fits number befores afters) → AreWorked s (map (λ (f : Finish S R N). f.group) (finishes s workers tally of_fits number befores afters are)) befores afters
+  pub done-worked : (number : ℕ) (befores afters : List (Station P S R N K)) (are : AreDone s workers tally of_fits number befores afters)
+      → AreWorked s (map (λ (f : Finish S R N). f.group) (finishes s workers tally of_fits number befores afters are)) befores afters
   done-worked number [] [] are = tt
   done-worked number [] (a ∷ afters) are = absurd are
   done-worked number (b ∷ befores) [] are = absurd are
   done-worked number (b ∷ befores) (a ∷ afters) are = ((are.0.1.work, refl), done-worked (suc number) befores afters are.1)
 
-  finishes-count : (number : ℕ) (befores afters : List (Station P S R N K)) (are : AreDone s workers tally of_fits number befores afters) → length (finishes s workers tally of_fits number befores afters are) ≡ length befores
+  finishes-count : (number : ℕ) (befores afters : List (Station P S R N K)) (are : AreDone s workers tally of_fits number befores afters)
+      → length (finishes s workers tally of_fits number befores afters are) ≡ length befores
   finishes-count number [] [] are = refl
   finishes-count number [] (a ∷ afters) are = absurd are
   finishes-count number (b ∷ befores) [] are = absurd are
   finishes-count number (b ∷ befores) (a ∷ afters) are = ap suc (finishes-count (suc number) befores afters are.1)
 
-  finishes-balanced : (number : ℕ) (befores afters : List (Station P S R N K)) (are : AreDone s workers tally of_fits number befores afters) → IsBalanced s.tree s.gap s.join s.none s.of (all_of s.join s.none (finishes s workers tally of_fits number befores afters are))
+  finishes-balanced : (number : ℕ) (befores afters : List (Station P S R N K)) (are : AreDone s workers tally of_fits number befores afters)
+      → IsBalanced s.tree s.gap s.join s.none s.of (all_of s.join s.none (finishes s workers tally of_fits number befores afters are))
   finishes-balanced number [] [] are = idle-balanced s.tree s.gap s.join s.none tally s.of of_fits
   finishes-balanced number [] (a ∷ afters) are = absurd are
   finishes-balanced number (b ∷ befores) [] are = absurd are
@@ -77,7 +80,8 @@ module _ {P S R N K : Type 0} (s : Searched S R N) (workers : ℕ) {fits : S →
       balanced-together s.tree s.gap s.join s.none tally s.of of_fits are.0.1.work.group (all_of s.join s.none (finishes s workers tally of_fits (suc number) befores afters are.1)) are.0.1.work.balanced (finishes-balanced (suc number) befores afters are.1)
 
 -- all groups of a list, and those of finished workers, are one
-pub all_of-groups : {S R N : Type 0} (join : S → S → S) (none : S) (fs : List (Finish S R N)) → all_together join none (map (λ (f : Finish S R N). f.group) fs) ≡ all_of join none fs
+pub all_of-groups : {S R N : Type 0} (join : S → S → S) (none : S) (fs : List (Finish S R N))
+    → all_together join none (map (λ (f : Finish S R N). f.group) fs) ≡ all_of join none fs
 all_of-groups join none [] = refl
 all_of-groups join none (f ∷ fs) = ap (together join f.group) (all_of-groups join none fs)
 
@@ -113,10 +117,11 @@ module _ {P S R N K : Type 0} (s : Searched S R N) (workers : ℕ) {fits : S →
     whole-closed = closed-all s.tree s.gap s.join s.none s.of e.done.work.group (all_of s.join s.none (finishes s workers tally of_fits 2 befores afters e.others)) e.rest.group e.pool e.mail e.rest.put_none e.rest.given_none e.reads
 
     whole-finished : AreFinished s workers 1 ends
-    whole-finished =
-        (first-finished s workers tally of_fits before after hand log e.done e.rest e.new.sum_none e.new.holds_none e.new.told e.new.totals e.new.number_is
-        (left-below s.tree s.gap s.join s.none s.of ranked bounded root_sound e.done.work.group (all_of s.join s.none (finishes s workers tally of_fits 2 befores afters e.others)) e.rest.group whole-balanced whole-closed e.root) e.several e.alone,
-        others-finished s workers tally of_fits 2 befores afters e.others (λ one. no-others befores IsAlone workers e.count one))
+    whole-finished = (
+      first-finished s workers tally of_fits before after hand log e.done e.rest e.new.sum_none e.new.holds_none e.new.told e.new.totals e.new.number_is
+          (left-below s.tree s.gap s.join s.none s.of ranked bounded root_sound e.done.work.group (all_of s.join s.none (finishes s workers tally of_fits 2 befores afters e.others)) e.rest.group whole-balanced whole-closed e.root) e.several e.alone,
+      others-finished s workers tally of_fits 2 befores afters e.others (λ one. no-others befores IsAlone workers e.count one),
+    )
 
     module _ (gathered : Hand S) (is_gathered : IsGathered s.join s.none (finished_hands ends) gathered) where
       -- the gathered hand holds the best of all visits
@@ -129,7 +134,8 @@ module _ {P S R N K : Type 0} (s : Searched S R N) (workers : ℕ) {fits : S →
           best-near s.tree ranked bounded root_sound s.gap whole.visits whole.cuts (group-covers s.tree s.gap s.join s.none s.of whole whole-balanced whole-closed) (group-attained s.tree s.gap s.join s.none s.of whole whole-balanced whole-closed) (incumbent_of gathered) path whole-best path_is
 
       -- the logs that are handed back are those of the whole search, which has visited the solution
-      pub crew-logs : (path : Option PathValue) → numbers_of path ≡ (incumbent_of gathered).path → HasCrewLogs s.tree s.gap (skeleton_of s.coord) workers (map (λ (f : Finish S R N). s.seen f.log) ends) (option_and_then (λ (p : PathValue). at_path s.tree p.numbers) path)
+      pub crew-logs : (path : Option PathValue) → numbers_of path ≡ (incumbent_of gathered).path
+          → HasCrewLogs s.tree s.gap (skeleton_of s.coord) workers (map (λ (f : Finish S R N). s.seen f.log) ends) (option_and_then (λ (p : PathValue). at_path s.tree p.numbers) path)
       crew-logs path path_is = record {
         entries = notes_of ends;
         are_logs =

@@ -1,31 +1,29 @@
 -- A worker that came to its end has a lawful log, which its group and its hand belong to.
-use Rattle.std.proofs.Common.{◌≡◌, ℕ, suc, ◌+◌, ◌<◌, ◌≤◌, true, false, List, [], ◌∷◌, ◌++◌, ◌∙◌, Option, Some, None, map, length, refl, sym, ap, ap₂, subst, arith, inl, append-nil}
+use Rattle.std.proofs.Common.{◌≡◌, ℕ, false, List, [], ◌++◌, ◌∙◌, refl, sym, ap, subst, arith, inl, append-nil}
 use Rattle.std.specs.Prelude.{IfSome}
-use Rattle.std.specs.List.{AllByRecursion}
 use Rattle.std.proofs.lemmas.List.Sums.{sum_by-append}
 use Rattle.yew_laws.specs.Bag.{SameBag}
 use Rattle.yew_laws.specs.Fold.{IsTally}
 use Rattle.yew_laws.specs.SearchTree.{SearchTree}
-use Rattle.yew_laws.proofs.Bags.{same-is, same-sym, same-trans, same-append}
-use Rattle.yew_log.specs.Groups.{Skeleton, HasGroups, SkeletonGroup}
-use Rattle.yew_log.specs.HeldValues.{KeyKind, plain, HeldIsMaximum, IsJudged}
-use Rattle.yew_log.specs.Lawful.{LawfulLog, HasSkeleton, HasShape, AreWalks, IsRest, MayRest, key_kind_of, tasks_of}
-use Rattle.yew_log.specs.Notes.{Note, visits, cuts, taken_paths, sent_paths, spawned_paths, handed_paths}
+use Rattle.yew_laws.proofs.Bags.{same-is, same-sym, same-trans}
+use Rattle.yew_log.specs.HeldValues.{plain, IsJudged}
+use Rattle.yew_log.specs.Lawful.{HasShape, key_kind_of}
+use Rattle.yew_log.specs.Notes.{Note, sent_paths, spawned_paths, handed_paths}
 use Rattle.yew_log.specs.Segment.{Segment, entries}
 use Rattle.yew_log.specs.Totals.{no_totals, totals_after}
 use Rattle.yew_log.proofs.Walks.{AreSmall}
 use Rattle.yew_walk.specs.LogViews.{LogView, log_after}
-use Rattle.yew_walk.specs.Hands.{incumbent_of, best_after}
+use Rattle.yew_walk.specs.Hands.{best_after}
 use Rattle.yew_walk.specs.declared.keying.Keying.TheVariants.{Plain}
 use Rattle.yew_walk.proofs.PlainRuns.{log_after-told, log_after-number, log_after-totals, small-none, fresh-told}
 use Rattle.yew_crew.specs.CrewSearch.{IsLogOf}
-use Rattle.yew_crew.specs.Groups.{Group, taken, sent, IsBalanced}
-use Rattle.yew_crew.specs.Reports.{IsDone, IsGroupWork, AreSegments, IsHandAfter, IsAlone}
+use Rattle.yew_crew.specs.Groups.{Group}
+use Rattle.yew_crew.specs.Reports.{IsDone, IsAlone}
 use Rattle.yew_crew.specs.Stations.{Searched, skeleton_of}
 use Rattle.yew_crew.specs.declared.coord.Coord.{Coord}
 use Rattle.yew_crew.specs.declared.coord.Coord.TheVariants.{Depth, Budget, Steal}
 use Rattle.yew_crew.specs.declared.station.Station.{Station}
-use Rattle.yew_crew.proofs.BestFinds.{nothing, not_holding}
+use Rattle.yew_crew.proofs.BestFinds.{not_holding}
 use Rattle.yew_crew.proofs.CrewWork.{group-fits}
 use Rattle.yew_crew.proofs.Finished.{Finish, IsFinished}
 use Rattle.yew_crew.proofs.SegmentSums.{taken-segments}
@@ -45,7 +43,8 @@ module _ {N : Type 0} (t : SearchTree N) where
   any-shape (Steal chunk) workers number segments = tt
 
 -- a log that was new has these entries
-pub new-log : (number : ℕ) (before after : LogView) (notes : List Note) → IfSome before.told (λ ns. ns ≡ []) → before.totals ≡ no_totals → before.number ≡ number → after ≡ log_after before notes → IsLogOf number notes after
+pub new-log : (number : ℕ) (before after : LogView) (notes : List Note) → IfSome before.told (λ ns. ns ≡ []) → before.totals ≡ no_totals
+    → before.number ≡ number → after ≡ log_after before notes → IsLogOf number notes after
 new-log number before after notes told totals number_is is = record {
   told = fresh-told before.told after.told notes told (ap (λ (l : LogView). l.told) is ∙ log_after-told before notes);
   totals_are = ap (λ (l : LogView). l.totals) is ∙ (log_after-totals before notes (subst AreSmall (sym totals) small-none) ∙ ap (λ u. totals_after u notes) totals);
@@ -53,7 +52,8 @@ new-log number before after notes told totals number_is is = record {
 }
 
 -- the Spawned and the Handed entries are all that is sent
-pub sent-parts : (notes : List Note) (put given : List (List ℕ)) → SameBag put (spawned_paths notes) → SameBag given (handed_paths notes) → SameBag (sent_paths notes) (put ++ given)
+pub sent-parts : (notes : List Note) (put given : List (List ℕ)) → SameBag put (spawned_paths notes) → SameBag given (handed_paths notes)
+    → SameBag (sent_paths notes) (put ++ given)
 sent-parts notes put given a b = record { weighs = λ h. (let d = sent-dealt h notes in let e = sum_by-append h put given in let f = a.weighs h in let g = b.weighs h in omega arith) }
 
 -- what a worker has done, noted and found
