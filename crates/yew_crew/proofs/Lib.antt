@@ -6,6 +6,7 @@ pub mod Putting
 pub mod SegmentSums
 pub mod SpawnStep
 pub mod WalkedParts
+pub mod WholeSegments
 pub mod WorkDone
 pub mod WorkSteps
 pub mod WorkTurns

@@ -8,6 +8,8 @@ mod open_view;
 mod spawn;
 mod spawning;
 mod station;
+#[cfg(test)]
+mod tests;
 
 pub use coord::Coord;
 pub use open_tasks::{Open, OpenSeat};
