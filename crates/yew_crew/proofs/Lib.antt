@@ -9,4 +9,5 @@ pub mod WalkedParts
 pub mod WholeSegments
 pub mod WorkDone
 pub mod WorkSteps
+pub mod WorkStopped
 pub mod WorkTurns

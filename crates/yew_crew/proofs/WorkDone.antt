@@ -26,7 +26,7 @@ use Rattle.yew_crew.specs.declared.station.Station.{Station}
 use Rattle.yew_crew.proofs.SegmentSums.{weigh-segments, judged-segments, all-segments, has-gone_on}
 use Rattle.yew_crew.proofs.WalkedParts.{sent-dealt, same-length}
 
-plain-segments : (segments : List Segment) → segments_of (map plain_walk segments) ≡ segments
+pub plain-segments : (segments : List Segment) → segments_of (map plain_walk segments) ≡ segments
 plain-segments [] = refl
 plain-segments (s ∷ ss) = ap (λ l. s ∷ l) (plain-segments ss)
 
@@ -34,11 +34,11 @@ plain-first : (segments : List Segment) (w : Segment) → AllByRecursion (λ (x 
 plain-first [] w = tt
 plain-first (s ∷ ss) w = (tt, plain-first ss w)
 
-plain-rise : (segments : List Segment) → KeysRise (map plain_walk segments)
+pub plain-rise : (segments : List Segment) → KeysRise (map plain_walk segments)
 plain-rise [] = tt
 plain-rise (s ∷ ss) = (plain-first ss s, plain-rise ss)
 
-all-plain : (Q : Segment → Type 0) (segments : List Segment) → AllByRecursion Q segments → AllByRecursion (λ (x : KeyedSegment). Q x.segment) (map plain_walk segments)
+pub all-plain : (Q : Segment → Type 0) (segments : List Segment) → AllByRecursion Q segments → AllByRecursion (λ (x : KeyedSegment). Q x.segment) (map plain_walk segments)
 all-plain Q [] a = tt
 all-plain Q (s ∷ ss) a = (a.0, all-plain Q ss a.1)
 
@@ -66,7 +66,7 @@ held-dealt weight (spawned p ∷ notes) = held-dealt weight notes
 held-dealt weight (handed p ∷ notes) = held-dealt weight notes
 held-dealt weight (ended p ∷ notes) = held-dealt weight notes
 
-each-segment : {S R N : Type 0} (s : Searched S R N) (segments : List Segment) → AllByRecursion (IsWalkSegment s) segments → AllByRecursion (IsSegment s.tree) segments
+pub each-segment : {S R N : Type 0} (s : Searched S R N) (segments : List Segment) → AllByRecursion (IsWalkSegment s) segments → AllByRecursion (IsSegment s.tree) segments
 each-segment s segments a = AllByRecursion-weaker (IsWalkSegment s) (IsSegment s.tree) (λ x p. p.is_segment) segments a
 
 module _ {P S R N K : Type 0} (t : SearchTree N) (join : S → S → S) (none : S) (of : N → ℕ → S) (seen : R → LogView) (coord : Coord) where
