@@ -8,6 +8,7 @@ pub mod SpawnStep
 pub mod WalkedParts
 pub mod WholeSegments
 pub mod WorkDone
+pub mod WorkRefused
 pub mod WorkSteps
 pub mod WorkStopped
 pub mod WorkTurns

@@ -1,7 +1,7 @@
 -- A segment that was walked to its end is one that may have been broken off.
-use Rattle.std.proofs.Common.{◌≡◌, ℕ, zero, suc, ◌+◌, ◌<◌, ◌≤◌, ◌∙◌, List, [], ◌∷◌, ◌++◌, inr, refl, sym, ap, subst, append_assoc, arith}
+use Rattle.std.proofs.Common.{◌≡◌, ℕ, zero, suc, ◌≤◌, ◌∙◌, List, [], ◌∷◌, ◌++◌, inr, refl, sym, ap, subst, append_assoc, arith}
 use Rattle.std.specs.Prelude.{IsSome}
-use Rattle.std.specs.List.{AllByRecursion, Contains, flat_map, sum_by}
+use Rattle.std.specs.List.{AllByRecursion, Contains}
 use Rattle.std.proofs.lemmas.List.Concat.{flat_map-append}
 use Rattle.std.proofs.lemmas.List.Elements.{All-contains, All-from_recursion}
 use Rattle.std.proofs.lemmas.List.Sums.{sum_by-append, sum_by-cons}
@@ -16,9 +16,9 @@ use Rattle.yew_laws.proofs.Bags.{same-part, same-sym, only-itself, none-weighs}
 use Rattle.yew_laws.proofs.Members.{AllByRecursion-map, AllByRecursion-weaker}
 use Rattle.yew_laws.proofs.PathTests.{is_path-same, is_path-is}
 use Rattle.yew_laws.proofs.Weights.{all-weighs, part-all}
-use Rattle.yew_log.specs.Notes.{Note, taken, visited, cut, spawned, handed, ended, Judgement, visit_in, visits, visited_paths, sent_paths, ended_in, ended_paths}
+use Rattle.yew_log.specs.Notes.{Note, taken, visited, cut, spawned, handed, ended, Judgement, visit_in, visited_paths, sent_paths, ended_in, ended_paths}
 use Rattle.yew_log.specs.Places.{AtEach}
-use Rattle.yew_log.specs.Segment.{Segment, segment, IsEnclosed, Nests, EndsVisits, IsOnce, IsSegment, IsBroken}
+use Rattle.yew_log.specs.Segment.{Segment, IsEnclosed, Nests, EndsVisits, IsOnce, IsSegment, IsBroken}
 use Rattle.yew_log.proofs.KnownPaths.{segment-of_tree, segment-one_of_a_kind}
 
 -- the path of an enclosed visit is ended once
@@ -40,9 +40,10 @@ enclosed-once path before worth held after e =
 
 visits-once : (before rest : List Note) → AtEach (λ b note a. AllByRecursion (λ (v : Judgement). IsEnclosed v.path b a) (visit_in note)) before rest → AllByRecursion (λ p. occurs p (ended_paths (before ++ rest)) ≡ 1) (visited_paths rest)
 visits-once before [] n = tt
-visits-once before (visited p w h ∷ ns) n =
-    (enclosed-once p before w h ns n.0.0,
-    subst (λ l. AllByRecursion (λ p'. occurs p' (ended_paths l) ≡ 1) (visited_paths ns)) (append_assoc before (visited p w h ∷ []) ns) (visits-once (before ++ visited p w h ∷ []) ns n.1))
+visits-once before (visited p w h ∷ ns) n = (
+  enclosed-once p before w h ns n.0.0,
+  subst (λ l. AllByRecursion (λ p'. occurs p' (ended_paths l) ≡ 1) (visited_paths ns)) (append_assoc before (visited p w h ∷ []) ns) (visits-once (before ++ visited p w h ∷ []) ns n.1),
+)
 visits-once before (taken p ∷ ns) n = subst (λ l. AllByRecursion (λ p'. occurs p' (ended_paths l) ≡ 1) (visited_paths ns)) (append_assoc before (taken p ∷ []) ns) (visits-once (before ++ taken p ∷ []) ns n.1)
 visits-once before (cut p b h ∷ ns) n = subst (λ l. AllByRecursion (λ p'. occurs p' (ended_paths l) ≡ 1) (visited_paths ns)) (append_assoc before (cut p b h ∷ []) ns) (visits-once (before ++ cut p b h ∷ []) ns n.1)
 visits-once before (spawned p ∷ ns) n = subst (λ l. AllByRecursion (λ p'. occurs p' (ended_paths l) ≡ 1) (visited_paths ns)) (append_assoc before (spawned p ∷ []) ns) (visits-once (before ++ spawned p ∷ []) ns n.1)
@@ -77,6 +78,7 @@ nests-ends_once body n e = λ path. by path (occurs path (ended_paths body)) ref
     each = ended-visited (λ p. occurs p (ended_paths body) ≡ 1) [] body e (λ b a p is c.
         All-contains (λ q. occurs q (ended_paths body) ≡ 1) (visited_paths b) p (All-from_recursion (λ q. occurs q (ended_paths body) ≡ 1) (visited_paths b)
         (visits-front b a (λ q. occurs q (ended_paths body) ≡ 1) (subst (λ l. AllByRecursion (λ q. occurs q (ended_paths body) ≡ 1) (visited_paths l)) is (visits-once [] body n)))) c)
+
     by : (path : List ℕ) (k : ℕ) → occurs path (ended_paths body) ≡ k → occurs path (ended_paths body) ≤ 1
     by path zero is = omega arith
     by path (suc k) is = let one = all-weighs is_path is_path-same is_path-is (λ p. occurs p (ended_paths body) ≡ 1) (ended_paths body) path each (omega arith) in omega arith

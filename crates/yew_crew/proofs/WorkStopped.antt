@@ -1,21 +1,21 @@
 -- What a worker has done that was told to stop: a part of what its tasks are.
-use Rattle.std.proofs.Common.{◌≡◌, ℕ, ◌+◌, ◌∙◌, List, [], ◌∷◌, ◌++◌, map, refl, sym, ap, subst, append-nil, arith}
+use Rattle.std.proofs.Common.{◌≡◌, ℕ, List, [], ◌∷◌, ◌++◌, map, refl, sym, ap, subst, append-nil, arith}
 use Rattle.std.specs.Prelude.{true}
 use Rattle.std.specs.List.{AllByRecursion, flat_map, sum_by}
 use Rattle.std.proofs.lemmas.List.Sums.{sum_by-append}
 use Rattle.std.proofs.lemmas.List.Concat.{flat_map-append}
-use Rattle.yew_laws.specs.Bag.{SameBag, PartOfBag}
+use Rattle.yew_laws.specs.Bag.{PartOfBag}
 use Rattle.yew_laws.specs.SearchTree.{SearchTree, below}
 use Rattle.yew_laws.proofs.Bags.{same-flat_map}
 use Rattle.yew_laws.proofs.Members.{AllByRecursion-weaker}
 use Rattle.yew_log.specs.HeldValues.{plain, HeldRises, HeldIsMaximum, IsJudged}
 use Rattle.yew_log.specs.Lawful.{tasks_of, IsBrokenLog}
-use Rattle.yew_log.specs.Notes.{Note, taken_paths, sent_paths}
+use Rattle.yew_log.specs.Notes.{taken_paths}
 use Rattle.yew_log.specs.Places.{AtEach}
 use Rattle.yew_log.specs.Segment.{Segment, entries, entries_in, IsSegment, IsBroken, Begins, covered_paths}
 use Rattle.yew_walk.specs.LogViews.{LogView}
 use Rattle.yew_walk.proofs.WorkerLogs.{walks-rise, walks-judged, walks-exact}
-use Rattle.yew_crew.specs.Reports.{IsAlone, IsPartWork, IsStopped}
+use Rattle.yew_crew.specs.Reports.{IsPartWork, IsStopped}
 use Rattle.yew_crew.specs.Stations.{Searched, searched}
 use Rattle.yew_crew.specs.Working.{plain_walk, IsWalkSegment, IsWorking}
 use Rattle.yew_crew.specs.declared.coord.Coord.{Coord}
@@ -56,18 +56,24 @@ module _ {P S R N K : Type 0} (t : SearchTree N) (join : S → S → S) (none : 
         given = w.given;
         moved = w.moved;
         log_is = w.log_is;
-        part = subst (λ l. PartOfBag (covered_paths t l) (flat_map (below t) (w.took ++ w.got))) (sym same) record { weighs = λ h. (
-            let a = weigh-covered t h notes in
-            let b = weigh-segments t h w.segments are in
-            let c = (same-flat_map (below t) w.taken_are).weighs h in
-            let d = ap (λ l. sum_by h l) (flat_map-append (below t) (tasks_of w.segments) rest) in
-            let e = sum_by-append h (flat_map (below t) (tasks_of w.segments)) (flat_map (below t) rest) in omega arith) };
-        taken_are = subst (λ l. PartOfBag (taken_paths l) (w.took ++ w.got)) (sym same) record { weighs = λ h. (
-            let a = ap (λ l. sum_by h l) (taken-segments t w.segments are) in
-            let b = w.taken_are.weighs h in
-            let c = sum_by-append h (tasks_of w.segments) rest in omega arith) };
-        sent_are = record { weighs = λ h. (
-            let a = w.spawned_are.weighs h in let b = w.handed_are.weighs h in let c = sum_by-append h w.put w.given in let d = sent-dealt h notes in omega arith) };
+        part = subst (λ l. PartOfBag (covered_paths t l) (flat_map (below t) (w.took ++ w.got))) (sym same) record {
+          weighs = λ h. (
+              let a = weigh-covered t h notes in
+              let b = weigh-segments t h w.segments are in
+              let c = (same-flat_map (below t) w.taken_are).weighs h in
+              let d = ap (λ l. sum_by h l) (flat_map-append (below t) (tasks_of w.segments) rest) in
+              let e = sum_by-append h (flat_map (below t) (tasks_of w.segments)) (flat_map (below t) rest) in omega arith);
+        };
+        taken_are = subst (λ l. PartOfBag (taken_paths l) (w.took ++ w.got)) (sym same) record {
+          weighs = λ h. (
+              let a = ap (λ l. sum_by h l) (taken-segments t w.segments are) in
+              let b = w.taken_are.weighs h in
+              let c = sum_by-append h (tasks_of w.segments) rest in omega arith);
+        };
+        sent_are = record {
+          weighs = λ h. (
+              let a = w.spawned_are.weighs h in let b = w.handed_are.weighs h in let c = sum_by-append h w.put w.given in let d = sent-dealt h notes in omega arith);
+        };
         keeps = kept;
         keeps_ahead = subst (IsBrokenLog t 0 plain) (sym same) kept;
         alone = λ a. subst HeldIsMaximum (sym same) (subst (λ l. HeldIsMaximum (entries l)) is (walks-exact t (map plain_walk w.segments) first.best now.best w.goes keys a.none_offered a.whole));
