@@ -21,7 +21,10 @@ pub mod SpawnStep
 pub mod WalkedParts
 pub mod WholeAnswers
 pub mod WholeCrew
+pub mod WholeSegments
 pub mod WorkDone
 pub mod WorkEnds
+pub mod WorkRefused
 pub mod WorkSteps
+pub mod WorkStopped
 pub mod WorkTurns

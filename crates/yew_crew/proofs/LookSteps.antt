@@ -1,5 +1,5 @@
 -- What a worker finds in its box, over one more walk.
-use Rattle.std.proofs.Common.{◌≡◌, ℕ, ◌∙◌, List, [], ◌∷◌, ◌++◌, map, refl, sym, ap, subst, append-nil, append_assoc}
+use Rattle.std.proofs.Common.{◌≡◌, ℕ, ◌∙◌, List, [], ◌∷◌, ◌++◌, refl, sym, ap, append-nil, append_assoc}
 use Rattle.std.specs.Prelude.{Bool, false, if◌then◌else◌}
 use Rattle.std.specs.List.{flat_map}
 use Rattle.std.proofs.lemmas.List.Concat.{flat_map-append}
@@ -7,9 +7,8 @@ use Rattle.yew_laws.specs.SearchTree.{SearchTree}
 use Rattle.yew_log.specs.Groups.{Part}
 use Rattle.yew_log.specs.Notes.{Note}
 use Rattle.yew_log.specs.Segment.{Segment, segment}
-use Rattle.yew_mail.specs.Views.{first_of, found}
+use Rattle.yew_mail.specs.Views.{first_of}
 use Rattle.yew_mail.specs.declared.boxes.Seen.{Seen}
-use Rattle.yew_mail.specs.declared.view.Call.TheVariants.{Look}
 use Rattle.yew_mail.specs.declared.view.Found.{Found}
 use Rattle.yew_crew.specs.Looks.{busy_looks, ends_closed, closes_on_asker, looked, AreLooksOf, AreLooksOfEach, HasLooked}
 use Rattle.yew_crew.specs.Outlets.{looks_at}

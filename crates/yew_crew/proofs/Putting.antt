@@ -5,7 +5,7 @@ use Rattle.std.specs.List.Sorted.{IsPermutation}
 use Rattle.std.specs.Prelude.{reverse, Option, Some}
 use Rattle.std.proofs.lemmas.List.{reverse-append}
 use Rattle.std.proofs.lemmas.List.Sums.{sum_by-append, sum_by-cons}
-use Rattle.yew_laws.specs.Bag.{SameBag, PartOfBag}
+use Rattle.yew_laws.specs.Bag.{SameBag}
 use Rattle.yew_laws.proofs.Bags.{same-permutation, same-sym}
 use Rattle.yew_laws.proofs.Members.{AllByRecursion-append}
 use Rattle.yew_pool.specs.Passes.{PassView}
@@ -51,18 +51,22 @@ module _ {T : Type 0} (P : T → Type 0) where
       let parts = AllByRecursion-front P less (task ∷ []) (subst (AllByRecursion P) is p.each_rest) in record {
         done = p.done ++ task ∷ [];
         now_is = ap (λ l. l ++ task ∷ []) p.now_is ∙ append_assoc before p.done (task ∷ []);
-        bag = record { weighs = λ w. (
-            let e = p.bag.weighs w in let f = sum_by-append w p.done rest in let g = ap (λ l. sum_by w l) is in let h = sum_by-append w less (task ∷ []) in
-            let i = sum_by-append w (p.done ++ task ∷ []) less in let j = sum_by-append w p.done (task ∷ []) in omega arith) };
+        bag = record {
+          weighs = λ w. (
+              let e = p.bag.weighs w in let f = sum_by-append w p.done rest in let g = ap (λ l. sum_by w l) is in let h = sum_by-append w less (task ∷ []) in
+              let i = sum_by-append w (p.done ++ task ∷ []) less in let j = sum_by-append w p.done (task ∷ []) in omega arith);
+        };
         each_done = AllByRecursion-append P p.done (task ∷ []) p.each_done parts.1;
         each_rest = parts.0;
       }
 
   -- at the end all are there
   pub put_ends : (before all rest now : List T) → IsPutting before all rest now → rest ≡ [] → SameBag now (before ++ all)
-  put_ends before all rest now p none = record { weighs = λ w. (
-      let e = p.bag.weighs w in let f = sum_by-append w p.done rest in let g = ap (λ l. sum_by w l) none in let h = ap (λ l. sum_by w l) p.now_is in
-      let i = sum_by-append w before p.done in let j = sum_by-append w before all in omega arith) }
+  put_ends before all rest now p none = record {
+    weighs = λ w. (
+        let e = p.bag.weighs w in let f = sum_by-append w p.done rest in let g = ap (λ l. sum_by w l) none in let h = ap (λ l. sum_by w l) p.now_is in
+        let i = sum_by-append w before p.done in let j = sum_by-append w before all in omega arith);
+  }
 
   -- where one was refused, a part of them is there
   pub put_part : (before all rest now : List T) → IsPutting before all rest now → IsSentPart P before all now
@@ -107,6 +111,8 @@ as_many before after tasks old new more bag counted is =
 pub spawns_later : {P N K : Type 0} (before after : SpawningView P N K) (pass : PassView (Task P N K) P) (seat : OpenSeatView) (tasks : List (Task P N K)) (more : ℕ)
     → before.pass ≡ pass → before.tasks ≡ seat → after.tasks.made ≡ seat.made + more → more ≡ length tasks → SameBag after.pass.put (pass.put ++ tasks) → IsLaterSpawning before after
 spawns_later before after pass seat tasks more p q r t bag =
-    record { made = (
-        let a = as_many pass.put after.pass.put tasks seat.made after.tasks.made more bag r t in
-        let b = ap (λ (x : PassView (Task _ _ _) _). length x.put) p in let c = ap (λ (x : OpenSeatView). x.made) q in omega arith) }
+    record {
+      made = (
+          let a = as_many pass.put after.pass.put tasks seat.made after.tasks.made more bag r t in
+          let b = ap (λ (x : PassView (Task _ _ _) _). length x.put) p in let c = ap (λ (x : OpenSeatView). x.made) q in omega arith);
+    }

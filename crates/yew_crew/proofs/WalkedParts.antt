@@ -1,32 +1,26 @@
 -- What one walk that came to its end gives a worker.
-use Rattle.std.proofs.Common.{◌≡◌, ℕ, ◌+◌, ◌∙◌, List, [], ◌∷◌, ◌++◌, map, length, refl, sym, ap, subst, append-nil, arith, Bool, Option}
+use Rattle.std.proofs.Common.{◌≡◌, ℕ, ◌+◌, ◌∙◌, List, [], ◌∷◌, ◌++◌, length, refl, sym, ap, subst, append-nil, arith, Bool}
 use Rattle.std.specs.List.{AllByRecursion, sum_by}
 use Rattle.std.specs.Option.{option_map}
-use Rattle.std.proofs.lemmas.List.Sums.{sum_by-cons, sum_by-append}
-use Rattle.std.proofs.lemmas.List.{length-map}
-use Rattle.yew_best.specs.Seats.{SeatView}
+use Rattle.std.proofs.lemmas.List.Sums.{sum_by-cons}
 use Rattle.yew_laws.specs.declared.problem.Problem.{Ghosts}
 use Rattle.yew_laws.specs.declared.problem.Task.{Task}
 use Rattle.yew_laws.specs.Bag.{SameBag}
 use Rattle.yew_laws.specs.Fold.{fold_of, of_member}
-use Rattle.yew_laws.specs.SearchTree.{search_tree}
+use Rattle.yew_laws.specs.SearchTree.{search_tree, IsTask}
 use Rattle.yew_laws.specs.Tree.{Member}
-use Rattle.yew_laws.proofs.Bags.{same-map, same-trans}
-use Rattle.yew_log.specs.Groups.{HasGroups, SkeletonGroup, Skeleton}
 use Rattle.yew_log.specs.HeldValues.{plain, HeldRises, IsJudged}
 use Rattle.yew_log.specs.Notes.{Note, taken, visited, cut, spawned, handed, ended, visits, event_paths, sent_paths, spawned_paths, handed_paths}
-use Rattle.yew_log.specs.Policies.{PolicyMeaning, PolicyGroup, HasPolicy}
-use Rattle.yew_log.specs.Segment.{segment, entries_in, IsSegment}
+use Rattle.yew_log.specs.Policies.{PolicyMeaning, HasPolicy}
+use Rattle.yew_log.specs.Segment.{segment, IsSegment}
 use Rattle.yew_stack.specs.Splits.{paths_of}
-use Rattle.yew_walk.specs.declared.hand.Hand.{Hand}
 use Rattle.yew_walk.specs.declared.keying.Keying.TheVariants.{Plain}
 use Rattle.yew_walk.specs.Hands.{incumbent_of, best_after, AreVisited}
-use Rattle.yew_walk.specs.LogViews.{LogView, log_after}
+use Rattle.yew_walk.specs.LogViews.{log_after}
 use Rattle.yew_walk.specs.Outlets.{OutletCall}
 use Rattle.yew_walk.specs.Scenes.{Scene, IsWalked}
 use Rattle.yew_walk.specs.Seats.{SeatGoes}
-use Rattle.yew_crew.specs.Stations.{Searched, skeleton_of}
-use Rattle.yew_crew.specs.Working.{IsWalkSegment}
+use Rattle.yew_crew.specs.Stations.{Searched}
 
 pub ones : {X : Type 0} (xs : List X) → sum_by (λ _. 1) xs ≡ length xs
 ones [] = refl
@@ -63,6 +57,7 @@ module _ {S N K Sum Q R : Type 0} (meaning : Ghosts S N K) (problem : S) (s : Se
     pub best_is : incumbent_of now.hand ≡ best_after Plain (incumbent_of first.hand) (visits body)
     pub sent_are : SameBag now.sent (first.sent ++ tasks)
     pub tasks_are : SameBag (paths_of tasks) (sent_paths body)
+    pub sound : AllByRecursion (λ task'. IsTask meaning problem task'.path.numbers task'.node) tasks
     pub answers_are : now.answers ≡ option_map (λ given. given ++ answers) first.answers
 
   pub walk-parts : (task : List ℕ) (made : List OutletCall → Type 0) (first now : Scene S N K Sum Q) → IsWalked meaning problem Plain s.join s.of policy task s.none made first now → WalkParts task first now
@@ -87,5 +82,6 @@ module _ {S N K Sum Q R : Type 0} (meaning : Ghosts S N K) (problem : S) (s : Se
         best_is = w.best_is ∙ ap (λ notes. best_after Plain (incumbent_of first.hand) (visits notes)) notes_are;
         sent_are = w.sent_are;
         tasks_are = subst (λ notes. SameBag (paths_of w.tasks) (sent_paths notes)) notes_are w.tasks_are;
+        sound = w.sound;
         answers_are = w.answers_are;
       }

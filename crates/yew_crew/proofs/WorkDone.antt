@@ -1,33 +1,32 @@
 -- What a worker has done that found no open task: a group that keeps the equations, and the segments of its log.
 use Rattle.std.proofs.Common.{◌≡◌, ℕ, ◌+◌, ◌∙◌, List, [], ◌∷◌, ◌++◌, map, length, refl, sym, ap, subst, append-nil, arith}
-use Rattle.std.specs.Prelude.{◌≤◌, ◌%◌, ◌^◌, true, Some}
+use Rattle.std.specs.Prelude.{◌%◌, ◌^◌, true, Some}
 use Rattle.std.specs.List.{AllByRecursion, flat_map, sum_by}
 use Rattle.std.proofs.lemmas.List.{length-append}
 use Rattle.std.proofs.lemmas.List.Sums.{sum_by-append, sum_by-cons}
 use Rattle.std.proofs.lemmas.List.Concat.{flat_map-append}
-use Rattle.yew_laws.specs.Bag.{SameBag, PartOfBag}
+use Rattle.yew_laws.specs.Bag.{SameBag}
 use Rattle.yew_laws.specs.Fold.{fold_of, of_member}
 use Rattle.yew_laws.specs.SearchTree.{SearchTree, below}
-use Rattle.yew_laws.proofs.Bags.{same-refl, same-flat_map, same-trans, same-sym, same-is, same-append}
+use Rattle.yew_laws.proofs.Bags.{same-refl, same-flat_map, same-trans, same-is}
 use Rattle.yew_laws.proofs.Members.{AllByRecursion-weaker}
-use Rattle.yew_log.specs.Groups.{HasGroups, SkeletonGroup}
 use Rattle.yew_log.specs.HeldValues.{plain, HeldRises, HeldIsMaximum, IsJudged}
-use Rattle.yew_log.specs.Lawful.{tasks_of, AreWalks}
-use Rattle.yew_log.specs.Notes.{Note, taken, visited, cut, spawned, handed, ended, Judgement, paths, values, held_values, visits, cuts, judgements, visit_in, cut_in, sent_paths, spawned_paths, handed_paths, visited_paths, cut_paths}
-use Rattle.yew_log.specs.Segment.{Segment, entries, entries_in, IsSegment, covered_paths}
+use Rattle.yew_log.specs.Lawful.{tasks_of}
+use Rattle.yew_log.specs.Notes.{Note, taken, visited, cut, spawned, handed, ended, Judgement, paths, values, held_values, visits, cuts, judgements, visit_in, cut_in, sent_paths}
+use Rattle.yew_log.specs.Segment.{Segment, entries, entries_in, IsSegment}
 use Rattle.yew_walk.specs.LogViews.{LogView}
 use Rattle.yew_walk.specs.WorkerLogs.{KeyedSegment, segments_of, KeysRise, ComesFirst}
 use Rattle.yew_walk.proofs.WorkerLogs.{walks-rise, walks-judged, walks-exact}
-use Rattle.yew_crew.specs.Groups.{Group, IsBalanced}
-use Rattle.yew_crew.specs.Reports.{IsAlone, IsGroupWork, AreSegments, IsHandAfter, IsDone}
-use Rattle.yew_crew.specs.Stations.{Searched, searched, skeleton_of}
+use Rattle.yew_crew.specs.Groups.{Group}
+use Rattle.yew_crew.specs.Reports.{IsGroupWork, AreSegments, IsDone}
+use Rattle.yew_crew.specs.Stations.{Searched, searched}
 use Rattle.yew_crew.specs.Working.{plain_walk, IsWalkSegment, IsWorking}
 use Rattle.yew_crew.specs.declared.coord.Coord.{Coord}
 use Rattle.yew_crew.specs.declared.station.Station.{Station}
-use Rattle.yew_crew.proofs.SegmentSums.{weigh-segments, weigh-covered, judged-segments, all-segments, has-gone_on}
+use Rattle.yew_crew.proofs.SegmentSums.{weigh-segments, judged-segments, all-segments, has-gone_on}
 use Rattle.yew_crew.proofs.WalkedParts.{sent-dealt, same-length}
 
-plain-segments : (segments : List Segment) → segments_of (map plain_walk segments) ≡ segments
+pub plain-segments : (segments : List Segment) → segments_of (map plain_walk segments) ≡ segments
 plain-segments [] = refl
 plain-segments (s ∷ ss) = ap (λ l. s ∷ l) (plain-segments ss)
 
@@ -35,11 +34,11 @@ plain-first : (segments : List Segment) (w : Segment) → AllByRecursion (λ (x 
 plain-first [] w = tt
 plain-first (s ∷ ss) w = (tt, plain-first ss w)
 
-plain-rise : (segments : List Segment) → KeysRise (map plain_walk segments)
+pub plain-rise : (segments : List Segment) → KeysRise (map plain_walk segments)
 plain-rise [] = tt
 plain-rise (s ∷ ss) = (plain-first ss s, plain-rise ss)
 
-all-plain : (Q : Segment → Type 0) (segments : List Segment) → AllByRecursion Q segments → AllByRecursion (λ (x : KeyedSegment). Q x.segment) (map plain_walk segments)
+pub all-plain : (Q : Segment → Type 0) (segments : List Segment) → AllByRecursion Q segments → AllByRecursion (λ (x : KeyedSegment). Q x.segment) (map plain_walk segments)
 all-plain Q [] a = tt
 all-plain Q (s ∷ ss) a = (a.0, all-plain Q ss a.1)
 
@@ -67,7 +66,7 @@ held-dealt weight (spawned p ∷ notes) = held-dealt weight notes
 held-dealt weight (handed p ∷ notes) = held-dealt weight notes
 held-dealt weight (ended p ∷ notes) = held-dealt weight notes
 
-each-segment : {S R N : Type 0} (s : Searched S R N) (segments : List Segment) → AllByRecursion (IsWalkSegment s) segments → AllByRecursion (IsSegment s.tree) segments
+pub each-segment : {S R N : Type 0} (s : Searched S R N) (segments : List Segment) → AllByRecursion (IsWalkSegment s) segments → AllByRecursion (IsSegment s.tree) segments
 each-segment s segments a = AllByRecursion-weaker (IsWalkSegment s) (IsSegment s.tree) (λ x p. p.is_segment) segments a
 
 module _ {P S R N K : Type 0} (t : SearchTree N) (join : S → S → S) (none : S) (of : N → ℕ → S) (seen : R → LogView) (coord : Coord) where
@@ -95,20 +94,26 @@ module _ {P S R N K : Type 0} (t : SearchTree N) (join : S → S → S) (none : 
       let are = each-segment s w.segments w.walks in
       let gone = has-gone_on t w.segments first.best now.best w.goes in
       let all_taken : SameBag (w.took ++ w.got) (tasks_of w.segments) = same-trans w.taken_are (same-is (append-nil (tasks_of w.segments))) in
-      let sent_are : SameBag (w.put ++ w.given) (sent_paths notes) = record { weighs = λ h. (
-          let a = w.spawned_are.weighs h in let b = w.handed_are.weighs h in let c = sum_by-append h w.put w.given in let d = sent-dealt h notes in omega arith) } in
+      let sent_are : SameBag (w.put ++ w.given) (sent_paths notes) = record {
+        weighs = λ h. (
+            let a = w.spawned_are.weighs h in let b = w.handed_are.weighs h in let c = sum_by-append h w.put w.given in let d = sent-dealt h notes in omega arith);
+      } in
       record {
         group = group-of first now w;
         balanced = record {
-          covered = record { weighs = λ h. (
-              let a = sum_by-append h (paths (visits notes)) (flat_map (below t) (paths (cuts notes) ++ (w.put ++ w.given))) in
-              let b = ap (λ l. sum_by h l) (flat_map-append (below t) (paths (cuts notes)) (w.put ++ w.given)) in
-              let c = sum_by-append h (flat_map (below t) (paths (cuts notes))) (flat_map (below t) (w.put ++ w.given)) in
-              let d = (same-flat_map (below t) sent_are).weighs h in
-              let e = weigh-segments t h w.segments are in
-              let f = (same-flat_map (below t) all_taken).weighs h in omega arith) };
-          walked = record { weighs = λ h. (
-              let a = judged-segments t h w.segments are in let b = all_taken.weighs h in let c = sum_by-append h (paths (visits notes)) (paths (cuts notes)) in omega arith) };
+          covered = record {
+            weighs = λ h. (
+                let a = sum_by-append h (paths (visits notes)) (flat_map (below t) (paths (cuts notes) ++ (w.put ++ w.given))) in
+                let b = ap (λ l. sum_by h l) (flat_map-append (below t) (paths (cuts notes)) (w.put ++ w.given)) in
+                let c = sum_by-append h (flat_map (below t) (paths (cuts notes))) (flat_map (below t) (w.put ++ w.given)) in
+                let d = (same-flat_map (below t) sent_are).weighs h in
+                let e = weigh-segments t h w.segments are in
+                let f = (same-flat_map (below t) all_taken).weighs h in omega arith);
+          };
+          walked = record {
+            weighs = λ h. (
+                let a = judged-segments t h w.segments are in let b = all_taken.weighs h in let c = sum_by-append h (paths (visits notes)) (paths (cuts notes)) in omega arith);
+          };
           worths = all-segments _ visit_in w.segments (AllByRecursion-weaker (IsSegment t) _ (λ x p. p.valued.worths) w.segments are);
           bounds = all-segments _ cut_in w.segments (AllByRecursion-weaker (IsSegment t) _ (λ x p. p.valued.bounds) w.segments are);
           permitted = all-segments _ cut_in w.segments (AllByRecursion-weaker (IsWalkSegment s) _ (λ x p. p.judged.cuts_permitted) w.segments w.walks);

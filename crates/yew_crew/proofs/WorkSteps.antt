@@ -1,6 +1,5 @@
 -- A worker's walks, one after another.
-use Rattle.std.proofs.Common.{◌≡◌, ℕ, ◌+◌, ◌∙◌, List, [], ◌∷◌, ◌++◌, map, length, refl, sym, ap, subst, append-nil, append_assoc, arith}
-use Rattle.std.specs.Prelude.{true}
+use Rattle.std.proofs.Common.{◌≡◌, ℕ, ◌∙◌, List, [], ◌∷◌, ◌++◌, map, length, refl, sym, ap, subst, append-nil, arith}
 use Rattle.std.specs.List.{AllByRecursion, flat_map, sum_by}
 use Rattle.std.proofs.lemmas.List.{length-append}
 use Rattle.std.proofs.lemmas.List.Concat.{flat_map-append}
@@ -11,19 +10,18 @@ use Rattle.yew_laws.specs.Tree.{Member, paths as member_paths}
 use Rattle.yew_laws.proofs.Folds.{fold-fits}
 use Rattle.yew_laws.proofs.Members.{AllByRecursion-append}
 use Rattle.yew_log.specs.Lawful.{tasks_of}
-use Rattle.yew_log.specs.Notes.{Note, taken, Judgement, visits, visited_paths, spawned_paths, handed_paths, spawned_in, handed_in, visit_in}
+use Rattle.yew_log.specs.Notes.{Note, taken, Judgement, visits, visited_paths, spawned_in, handed_in, visit_in}
 use Rattle.yew_log.specs.Segment.{Segment, segment, entries, entries_in}
 use Rattle.yew_stack.specs.Splits.{paths_of}
 use Rattle.yew_walk.specs.declared.keying.Keying.TheVariants.{Plain}
-use Rattle.yew_walk.specs.Hands.{best_after, AreVisited}
+use Rattle.yew_walk.specs.Hands.{best_after}
 use Rattle.yew_walk.specs.LogViews.{log_after}
 use Rattle.yew_walk.proofs.Sending.{log_after-append}
 use Rattle.yew_walk.proofs.WorkerLogs.{goes_on-push}
 use Rattle.yew_walk.specs.WorkerLogs.{SeatGoesOn}
 use Rattle.yew_laws.specs.Incumbent.{Incumbent, improved}
 use Rattle.yew_walk.specs.Keys.{answer_key}
-use Rattle.yew_crew.specs.Reports.{Moved}
-use Rattle.yew_crew.specs.Stations.{Searched, IsSameStation, IfSteal}
+use Rattle.yew_crew.specs.Stations.{Searched, IsSameStation}
 use Rattle.yew_crew.specs.Working.{plain_walk, IsWalkSegment, IsStep, IsWorking}
 use Rattle.yew_crew.specs.declared.station.Station.{Station}
 use Rattle.yew_crew.proofs.LookSteps.{looks-more}
@@ -66,9 +64,11 @@ fold-append {join} {none} tally of of_fits (x ∷ xs) ys =
 
 -- bags that grow twice
 grow : {X : Type 0} (first mid last more again : List X) → SameBag mid (first ++ more) → SameBag last (mid ++ again) → SameBag last (first ++ (more ++ again))
-grow first mid last more again a b = record { weighs = λ w. (
-    let e = a.weighs w in let f = b.weighs w in let g = sum_by-append w first more in let h = sum_by-append w mid again in
-    let i = sum_by-append w first (more ++ again) in let j = sum_by-append w more again in omega arith) }
+grow first mid last more again a b = record {
+  weighs = λ w. (
+      let e = a.weighs w in let f = b.weighs w in let g = sum_by-append w first more in let h = sum_by-append w mid again in
+      let i = sum_by-append w first (more ++ again) in let j = sum_by-append w more again in omega arith);
+}
 
 stay : {X : Type 0} (first mid last more : List X) → SameBag mid (first ++ more) → SameBag last (mid ++ []) → SameBag last (first ++ more)
 stay first mid last more a b = record { weighs = λ w. (let e = a.weighs w in let f = b.weighs w in let g = sum_by-append w mid [] in omega arith) }
@@ -112,14 +112,16 @@ module _ {P S R N K : Type 0} where
             got_is = stay (paths_of first.mail.got) (paths_of before.mail.got) (paths_of after.mail.got) w.got w.moved.got_is x.moved.got_is;
             given_is = grow (paths_of first.mail.given) (paths_of before.mail.given) (paths_of after.mail.given) w.given x.given w.moved.given_is x.moved.given_is;
           };
-          taken_are = record { weighs = λ h. (
-              let a = w.taken_are.weighs h in
-              let b = sum_by-append h (tasks_of w.segments) (path ∷ rest) in
-              let c = sum_by-cons h path rest in
-              let d = ap (λ l. sum_by h l) (tasks-push w.segments seg) in
-              let e = sum_by-append h (tasks_of w.segments) (path ∷ []) in
-              let g = sum_by-append h (tasks_of (w.segments ++ seg ∷ [])) rest in
-              let i = sum_by-cons h path [] in omega arith) };
+          taken_are = record {
+            weighs = λ h. (
+                let a = w.taken_are.weighs h in
+                let b = sum_by-append h (tasks_of w.segments) (path ∷ rest) in
+                let c = sum_by-cons h path rest in
+                let d = ap (λ l. sum_by h l) (tasks-push w.segments seg) in
+                let e = sum_by-append h (tasks_of w.segments) (path ∷ []) in
+                let g = sum_by-append h (tasks_of (w.segments ++ seg ∷ [])) rest in
+                let i = sum_by-cons h path [] in omega arith);
+          };
           spawned_are = both spawned_in w.segments path x.body refl w.put x.put w.spawned_are x.spawned_are;
           handed_are = both handed_in w.segments path x.body refl w.given x.given w.handed_are x.handed_are;
           goes = subst (λ l. SeatGoesOn s.tree first.best l after.best) (sym (map-push plain_walk w.segments seg)) (goes_on-push s.tree (map plain_walk w.segments) first.best before.best after.best (plain_walk seg) w.goes x.goes);
@@ -143,6 +145,8 @@ module _ {P S R N K : Type 0} where
         }
       where
         both : (of : Note → List (List ℕ)) (segments : List Segment) (path' : List ℕ) (body : List Note) → of (taken path') ≡ [] → (xs ys : List (List ℕ)) → SameBag xs (flat_map of (entries segments)) → SameBag ys (flat_map of body) → SameBag (xs ++ ys) (flat_map of (entries (segments ++ segment path' body ∷ [])))
-        both of segments path' body none xs ys a b = record { weighs = λ h. (
-            let c = a.weighs h in let d = b.weighs h in let e = sum_by-append h xs ys in let g = ap (λ l. sum_by h l) (read-push of segments path' body none) in
-            let i = sum_by-append h (flat_map of (entries segments)) (flat_map of body) in omega arith) }
+        both of segments path' body none xs ys a b = record {
+          weighs = λ h. (
+              let c = a.weighs h in let d = b.weighs h in let e = sum_by-append h xs ys in let g = ap (λ l. sum_by h l) (read-push of segments path' body none) in
+              let i = sum_by-append h (flat_map of (entries segments)) (flat_map of body) in omega arith);
+        }

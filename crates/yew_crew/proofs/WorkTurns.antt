@@ -1,7 +1,6 @@
 -- How a worker begins, takes tasks, and makes calls that change nothing of its work.
-use Rattle.std.proofs.Common.{◌≡◌, ℕ, ◌+◌, ◌∙◌, List, [], ◌∷◌, ◌++◌, length, refl, sym, ap, append-nil, arith}
-use Rattle.std.specs.Prelude.{◌≤◌, true}
-use Rattle.std.specs.List.{sum_by}
+use Rattle.std.proofs.Common.{◌≡◌, ℕ, ◌∙◌, List, [], ◌∷◌, ◌++◌, refl, sym, ap, append-nil, arith}
+use Rattle.std.specs.Prelude.{◌≤◌}
 use Rattle.std.proofs.lemmas.List.Sums.{sum_by-append, sum_by-cons}
 use Rattle.yew_laws.specs.Bag.{SameBag}
 use Rattle.yew_laws.specs.Fold.{IsTally}
@@ -87,23 +86,27 @@ module _ {P S R N K : Type 0} where
           given = w.given;
           walks = w.walks;
           moved = record {
-            took_is = record { weighs = λ x. (
-                let a = (same-map (λ (t : Task P N K). t.path.numbers) h.took).weighs x in
-                let b = w.moved.took_is.weighs x in
-                let c = sum_by-cons x task.path.numbers (paths_of before.pool.took) in
-                let d = sum_by-cons x task.path.numbers w.took in
-                let e = sum_by-append x (paths_of first.pool.took) w.took in
-                let g = sum_by-append x (paths_of first.pool.took) (task.path.numbers ∷ w.took) in omega arith) };
+            took_is = record {
+              weighs = λ x. (
+                  let a = (same-map (λ (t : Task P N K). t.path.numbers) h.took).weighs x in
+                  let b = w.moved.took_is.weighs x in
+                  let c = sum_by-cons x task.path.numbers (paths_of before.pool.took) in
+                  let d = sum_by-cons x task.path.numbers w.took in
+                  let e = sum_by-append x (paths_of first.pool.took) w.took in
+                  let g = sum_by-append x (paths_of first.pool.took) (task.path.numbers ∷ w.took) in omega arith);
+            };
             put_is = same-trans (same-is (ap (λ (p : PassView (Task P N K) P). paths_of p.put) is)) w.moved.put_is;
             got_is = w.moved.got_is;
             given_is = w.moved.given_is;
           };
-          taken_are = record { weighs = λ x. (
-              let a = w.taken_are.weighs x in
-              let b = sum_by-cons x task.path.numbers (w.took ++ w.got) in
-              let c = sum_by-append x (tasks_of w.segments) rest in
-              let d = sum_by-append x (tasks_of w.segments) (task.path.numbers ∷ rest) in
-              let e = sum_by-cons x task.path.numbers rest in omega arith) };
+          taken_are = record {
+            weighs = λ x. (
+                let a = w.taken_are.weighs x in
+                let b = sum_by-cons x task.path.numbers (w.took ++ w.got) in
+                let c = sum_by-append x (tasks_of w.segments) rest in
+                let d = sum_by-append x (tasks_of w.segments) (task.path.numbers ∷ rest) in
+                let e = sum_by-cons x task.path.numbers rest in omega arith);
+          };
           spawned_are = w.spawned_are;
           handed_are = w.handed_are;
           goes = w.goes;
@@ -159,20 +162,20 @@ module _ {P S R N K : Type 0} where
       no_stop = ap (λ (t : OpenSeatView). t.stops) is ∙ w.no_stop;
       knows = λ k. ap (λ (t : OpenSeatView). t.knows) is ∙ w.knows k;
       same = record {
-            number = w.same.number;
-            best = w.same.best;
-            best_share = w.same.best_share;
-            pool = w.same.pool;
-            pass_number = w.same.pass_number;
-            pass_share = w.same.pass_share;
-            pass_problem = w.same.pass_problem;
-            mail = w.same.mail;
-            mail_share = w.same.mail_share;
-            mail_numbers = w.same.mail_numbers;
-            mail_problem = w.same.mail_problem;
-            tasks = ap (λ (t : OpenSeatView). t.tasks) is ∙ w.same.tasks;
-            tasks_share = ap (λ (t : OpenSeatView). t.share) is ∙ w.same.tasks_share;
-          };
+        number = w.same.number;
+        best = w.same.best;
+        best_share = w.same.best_share;
+        pool = w.same.pool;
+        pass_number = w.same.pass_number;
+        pass_share = w.same.pass_share;
+        pass_problem = w.same.pass_problem;
+        mail = w.same.mail;
+        mail_share = w.same.mail_share;
+        mail_numbers = w.same.mail_numbers;
+        mail_problem = w.same.mail_problem;
+        tasks = ap (λ (t : OpenSeatView). t.tasks) is ∙ w.same.tasks;
+        tasks_share = ap (λ (t : OpenSeatView). t.share) is ∙ w.same.tasks_share;
+      };
       space = w.space;
       looks = w.looks;
     }

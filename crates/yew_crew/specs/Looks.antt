@@ -7,9 +7,9 @@ use Rattle.yew_log.specs.Notes.{Note, event_paths}
 use Rattle.yew_log.specs.Policies.{PolicyGroup, hungry_policy}
 use Rattle.yew_log.specs.Segment.{Segment}
 use Rattle.yew_mail.specs.declared.boxes.Seen.{Seen}
-use Rattle.yew_mail.specs.declared.boxes.Seen.TheVariants.{Shut, Ready, Asked, Given, Denied}
+use Rattle.yew_mail.specs.declared.boxes.Seen.TheVariants.{Shut, Asked}
 use Rattle.yew_mail.specs.declared.view.Call.{Call}
-use Rattle.yew_mail.specs.declared.view.Call.TheVariants.{Look, CloseBox, Ask, Fetch}
+use Rattle.yew_mail.specs.declared.view.Call.TheVariants.{Look, CloseBox}
 use Rattle.yew_mail.specs.declared.view.Found.{Found}
 
 -- a worker asks there

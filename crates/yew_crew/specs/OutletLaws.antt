@@ -1,5 +1,5 @@
 -- What the calls of a worker's outlets keep, one after another.
-use Rattle.std.proofs.Common.{◌≡◌, ℕ, ◌+◌, ◌∙◌, List, [], ◌∷◌, ◌++◌, refl, sym, ap, arith}
+use Rattle.std.proofs.Common.{◌∙◌, refl, ap, arith}
 use Rattle.yew_laws.specs.declared.problem.Task.{Task}
 use Rattle.yew_pool.specs.Passes.{PassView}
 use Rattle.yew_crew.specs.Outlets.{SpawningView, HasMade, KeepsSpawning, IsLaterSpawning}

@@ -1,5 +1,5 @@
 -- Where a worker's walks send their tasks: what contracts see of both outlets, and what their calls keep.
-use Rattle.std.specs.Prelude.{◌≡◌, ℕ, ◌+◌, Bool, true, List, [], ◌∷◌, ◌++◌, map, length, Option, Some}
+use Rattle.std.specs.Prelude.{◌≡◌, ℕ, ◌+◌, Bool, true, List, [], ◌∷◌, ◌++◌, map, length}
 use Rattle.std.specs.List.{flat_map}
 use Rattle.yew_laws.specs.declared.problem.Task.{Task}
 use Rattle.yew_mail.specs.Seats.{SeatView}
@@ -7,7 +7,6 @@ use Rattle.yew_mail.specs.Views.{first_of, found}
 use Rattle.yew_mail.specs.declared.boxes.Seen.{Seen}
 use Rattle.yew_mail.specs.declared.view.Call.TheVariants.{Look}
 use Rattle.yew_mail.specs.declared.view.Found.{Found}
-use Rattle.yew_mail.specs.declared.view.OwnBox.{OwnBox}
 use Rattle.yew_mail.specs.declared.view.OwnBox.TheVariants.{Waiting}
 use Rattle.yew_pool.specs.Passes.{PassView}
 use Rattle.yew_crew.specs.Looks.{is_asked, is_shut, looked, NeverShutTwice}

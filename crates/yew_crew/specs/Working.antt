@@ -1,5 +1,5 @@
 -- A worker at work: what it has done so far, and what one more walk adds to it.
-use Rattle.std.specs.Prelude.{◌≡◌, ℕ, ◌+◌, ◌≤◌, true, List, [], ◌∷◌, ◌++◌, map, length}
+use Rattle.std.specs.Prelude.{◌≡◌, ℕ, ◌+◌, ◌≤◌, true, List, [], ◌++◌, map, length}
 use Rattle.std.specs.List.{AllByRecursion}
 use Rattle.yew_laws.specs.Bag.{SameBag}
 use Rattle.yew_laws.specs.Fold.{fold_of, of_member}
@@ -8,7 +8,7 @@ use Rattle.yew_log.specs.Groups.{HasGroups, SkeletonGroup}
 use Rattle.yew_log.specs.HeldValues.{plain, HeldRises, IsJudged}
 use Rattle.yew_log.specs.Lawful.{tasks_of}
 use Rattle.yew_log.specs.Notes.{Note, visits, spawned_paths, handed_paths}
-use Rattle.yew_log.specs.Segment.{Segment, segment, entries, entries_in, IsSegment}
+use Rattle.yew_log.specs.Segment.{Segment, segment, entries, entries_in, IsSegment, IsBroken}
 use Rattle.yew_mail.specs.Views.{first_of}
 use Rattle.yew_mail.specs.declared.boxes.Seen.{Seen}
 use Rattle.yew_mail.specs.declared.view.Found.{Found}
@@ -28,9 +28,10 @@ abbrev pub plain_walk : Segment → KeyedSegment
 plain_walk s = record { keying = Plain; segment = s }
 
 module _ {S R N : Type 0} (s : Searched S R N) where
-  -- The segment of a walk, alone: it keeps the rules, and has the groups of the coordination
+  -- The segment of a walk, alone: it keeps the rules, also those of a segment that may have been broken off, and has the groups of the coordination
   pub record IsWalkSegment (seg : Segment) : Type 0 where
     pub is_segment : IsSegment s.tree seg
+    pub is_broken : IsBroken s.tree seg
     pub groups : HasGroups (SkeletonGroup s.tree (skeleton_of s.coord)) seg.body
     pub rises : HeldRises (entries_in seg)
     pub judged : IsJudged s.tree 0 plain (entries_in seg)

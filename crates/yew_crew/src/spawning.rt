@@ -127,7 +127,12 @@ impl<'a, P: Problem> Outlet<P> for Spawning<'a, P> {
 }
 
 // Puts tasks into the pool, in order, until one is refused.
-fn put_all<P: Carried>(pool: &Pool<P>, pass: &mut PoolPass<P>, problem: &P, tasks: Vec<P::Task>) -> Result<(), Memory>
+fn put_all<P: Carried>(
+    pool: &Pool<P>,
+    pass: &mut PoolPass<P>,
+    problem: &P,
+    tasks: Vec<P::Task>,
+) -> Result<(), Memory>
     requires pool { pass.old.pool ≡ pool.now }
     requires problem { pass.old.problem ≡ Some problem.now }
     requires sound { AllByRecursion (P.carries problem.now) tasks.items }

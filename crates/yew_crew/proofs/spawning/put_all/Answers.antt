@@ -1,4 +1,4 @@
-use Rattle.std.proofs.Common.{List, ◌≡◌, ◌++◌, ◌∷◌, [], refl, sym, ap, subst, ◌∙◌, arith}
+use Rattle.std.proofs.Common.{refl, sym, ap, ◌∙◌, arith}
 use Rattle.yew_pool.specs.Passes.{PassView}
 use Rattle.yew_crew.proofs.Putting.{no_items, put_begins, put_last, put_ends, sound_for, same_pass, pass_more, pass_part}
 use Rattle.yew_crew.proofs.spawning.put_all.Goals as goal
@@ -15,9 +15,10 @@ put-requires-clause-sound g c =
     (put_last (g.P.Carried.carries c.args.problem.now) _ _ _ _ c.pop.new.self.items c.in-Some.task c.loop-task.invariant.1 c.in-Some.ensures.items)
 
 pub loop-task-preserved : goal.loop-task-preserved
-loop-task-preserved g c =
-    (same_pass c.args.pass.now c.loop-task.pass c.put.new.pass _ c.loop-task.invariant.0 c.in-Ok.ensures.ok,
-    pass_more (g.P.Carried.carries c.args.problem.now) _ _ _ c.pop.new.self.items c.loop-task.pass _ c.in-Some.task c.loop-task.invariant.1 c.in-Some.ensures.items c.in-Ok.ensures.ok)
+loop-task-preserved g c = (
+  same_pass c.args.pass.now c.loop-task.pass c.put.new.pass _ c.loop-task.invariant.0 c.in-Ok.ensures.ok,
+  pass_more (g.P.Carried.carries c.args.problem.now) _ _ _ c.pop.new.self.items c.loop-task.pass _ c.in-Some.task c.loop-task.invariant.1 c.in-Some.ensures.items c.in-Ok.ensures.ok,
+)
 
 pub returns-in-Err-clause-err : goal.returns-in-Err-clause-err
 returns-in-Err-clause-err g c = pass_part (g.P.Carried.carries c.args.problem.now) _ _ _ c.loop-task.pass _ c.loop-task.invariant.1 c.in-Err.ensures.refused.1

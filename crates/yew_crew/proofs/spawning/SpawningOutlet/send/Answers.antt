@@ -1,4 +1,4 @@
-use Rattle.std.proofs.Common.{◌≡◌, ◌∙◌, sym, ap, arith}
+use Rattle.std.proofs.Common.{sym, ap, arith}
 use Rattle.yew_walk.proofs.Results.{OnOk-map}
 use Rattle.yew_crew.specs.OpenSeats.{OpenSeatView}
 use Rattle.yew_crew.specs.Outlets.{SpawningView}
