@@ -5,13 +5,14 @@ ghost use Rattle.yew_mail.specs.Closing.{tasks_in};
 
 use atomic_table::Closed;
 use std::alloc::Global;
-use yew_laws::{Memory, Problem, Task};
+use yew_laws::Memory;
+use yew_tasks::Carried;
 
 // Appends what the slots have, in the order of the boxes, as long as memory lasts. Each slot is taken in any case,
 // since only an empty table can be freed.
-pub fn empty<P: Problem>(
-    mut closed: Closed<Vec<Task<P>>, Global>,
-    left: &mut Vec<Task<P>>,
+pub fn empty<P: Carried>(
+    mut closed: Closed<Vec<P::Task>, Global>,
+    left: &mut Vec<P::Task>,
 ) -> Result<(), Memory>
     requires { IsFull closed.slots }
     ensures ok { OnOk result (left.new.items ≡ left.old.items ++ tasks_in (slots_items closed.slots)) }
@@ -19,14 +20,14 @@ pub fn empty<P: Problem>(
 {
     let mut lasts = true;
     for slot in 0..closed.slot_count() {
-        lasts = append(left, closed.take(slot), lasts);
+        lasts = append::<P>(left, closed.take(slot), lasts);
     }
     closed.free();
     if lasts { Ok(()) } else { Err(Memory) }
 }
 
 // Appends these tasks where memory has lasted, and answers whether it still does.
-fn append<P: Problem>(left: &mut Vec<Task<P>>, mut tasks: Vec<Task<P>>, lasts: bool) -> bool
+fn append<P: Carried>(left: &mut Vec<P::Task>, mut tasks: Vec<P::Task>, lasts: bool) -> bool
     ensures appended { result ≡ true → (lasts ≡ true) × (left.new.items ≡ left.old.items ++ tasks.items) }
     ensures dropped { result ≡ false → left.new.items ≡ left.old.items }
 {

@@ -1,17 +1,17 @@
 ghost use Rattle.std.specs.Prelude.{◌≡◌, ◌<◌, ◌++◌, [], ◌∷◌, length, IfOk};
 ghost use Rattle.std.specs.List.{AllByRecursion};
 ghost use Rattle.yew_mail.specs.Seats.{new_seat};
-ghost use Rattle.yew_mail.specs.Tasks.{is_task};
 
 use crate::tests::{Star, gift, leaf};
 use crate::{Fetched, Mail, MailSeat, Seen};
 use std::alloc::Global;
 use std::process::Abort;
 use std::test::Fail;
-use yew_laws::{Memory, Problem, Task};
+use yew_laws::Memory;
+use yew_tasks::Carried;
 
 /// Mailboxes for two workers, and their seats.
-fn pair<P: Problem>(
+fn pair<P: Carried>(
     alloc: Global,
     problem: &P,
 ) -> Result<(Mail<P>, MailSeat<P>, MailSeat<P>), Memory>
@@ -26,7 +26,7 @@ fn pair<P: Problem>(
 }
 
 /// Two seats as a list.
-fn listed<P: Problem>(
+fn listed<P: Carried>(
     alloc: Global,
     first: MailSeat<P>,
     second: MailSeat<P>,
@@ -41,15 +41,15 @@ fn listed<P: Problem>(
 
 /// The first of two workers gives the second these tasks, which are fetched or not: how many were got, and how many
 /// were left.
-fn handed<P: Problem>(
+fn handed<P: Carried>(
     rt: &impl Abort,
     alloc: Global,
     problem: &P,
-    tasks: Vec<Task<P>>,
+    tasks: Vec<P::Task>,
     fetched: bool,
 ) -> Result<(usize, usize), Memory>
     requires some { 0 < length tasks.items }
-    requires sound { AllByRecursion (is_task P.Problem problem.now) tasks.items }
+    requires sound { AllByRecursion (P.carries problem.now) tasks.items }
 {
     let (mail, mut first, mut second) = pair(alloc, problem)?;
     let Seen::Shut = mail.look(&mut first) else {
@@ -91,7 +91,7 @@ fn a_gift_is_fetched_or_left(rt: HostRuntime) -> Result<(), Fail> {
 }
 
 /// The second of two workers asks the first one, whose box is still shut, or was closed again: no ask comes in time.
-fn too_early_or_late<P: Problem>(
+fn too_early_or_late<P: Carried>(
     rt: &impl Abort,
     alloc: Global,
     problem: &P,
@@ -114,7 +114,7 @@ fn too_early_or_late<P: Problem>(
 }
 
 /// It asks before the box is closed, and is denied.
-fn denied<P: Problem>(rt: &impl Abort, alloc: Global, problem: &P) -> Result<(), Memory> {
+fn denied<P: Carried>(rt: &impl Abort, alloc: Global, problem: &P) -> Result<(), Memory> {
     let (mail, mut first, mut second) = pair(alloc, problem)?;
     let Seen::Shut = mail.look(&mut first) else {
         panic!(rt; "a new box is not shut")
@@ -140,7 +140,7 @@ fn denied<P: Problem>(rt: &impl Abort, alloc: Global, problem: &P) -> Result<(),
 }
 
 /// It asks a worker that has opened its box and is gone: there is no answer, and nothing is left.
-fn unanswered<P: Problem>(rt: &impl Abort, alloc: Global, problem: &P) -> Result<usize, Memory> {
+fn unanswered<P: Carried>(rt: &impl Abort, alloc: Global, problem: &P) -> Result<usize, Memory> {
     let (mail, mut first, mut second) = pair(alloc, problem)?;
     let Seen::Shut = mail.look(&mut first) else {
         panic!(rt; "a new box is not shut")

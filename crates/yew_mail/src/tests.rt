@@ -4,7 +4,7 @@ ghost use Rattle.std.specs.Thread.{IsSync};
 ghost use Rattle.yew_mail.specs.Players.{IsSeatOf};
 ghost use Rattle.yew_mail.specs.Seats.{new_seat};
 ghost use Rattle.yew_mail.specs.Star.{children_of, rank_of, IsWithin, star-ranked, star-bounded, star-countable, star-root_rank};
-ghost use Rattle.yew_mail.specs.Tasks.{is_task};
+ghost use Rattle.yew_tasks.specs.Tasks.{is_task};
 ghost use Rattle.yew_mail.specs.Views.{numbers_to};
 
 use crate::{Fetched, Mail, MailSeat, Seen};

@@ -5,7 +5,7 @@ pub loop-other-init : goal.loop-other-init
 loop-other-init g c = gather_begins _ _ _ _ c.requires.mail (c.in-Some.ensures.items)
 
 pub join-requires-clause-other : goal.join-requires-clause-other
-join-requires-clause-other g c κs within = next_mail _ _ _ _ _ _ c.loop-other.invariant c.in-Some-pop.ensures.items
+join-requires-clause-other g c = next_mail _ _ _ _ _ _ c.loop-other.invariant c.in-Some-pop.ensures.items
 
 pub loop-other-preserved : goal.loop-other-preserved
 loop-other-preserved g c = gather_more _ _ _ _ _ _ _ c.loop-other.invariant c.in-Some-pop.ensures.items c.join.ensures

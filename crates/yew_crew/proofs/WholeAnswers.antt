@@ -1,0 +1,144 @@
+-- What a whole search answers: from the cover of the tree, the causes of its cuts, the best of its visits and their sum.
+use Rattle.std.proofs.Common.{◌≡◌, ℕ, zero, suc, ◌+◌, ◌≤◌, ◌⊎◌, List, [], ◌∷◌, ◌++◌, ◌∙◌, Option, Some, None, length, if◌then◌else◌, refl, sym, ap, ap₂, arith, inl, inr, ⊎_elim, append-nil}
+use Rattle.std.specs.Prelude.{IsNone, IfSome}
+use Rattle.std.specs.List.{AllByRecursion, Contains, flat_map}
+use Rattle.std.specs.Option.{option_map}
+use Rattle.std.proofs.lemmas.List.Elements.{All-contains, All-from_recursion}
+use Rattle.std.proofs.lemmas.Option.{none-some}
+use Rattle.yew_laws.specs.Bag.{SameBag}
+use Rattle.yew_laws.specs.Cover.{Cover}
+use Rattle.yew_laws.specs.Fold.{Fold, fold_of, of_member, IsTally}
+use Rattle.yew_laws.specs.Incumbent.{Incumbent}
+use Rattle.yew_laws.specs.Order.{is_path}
+use Rattle.yew_laws.specs.PathValue.{PathValue}
+use Rattle.yew_laws.specs.SearchTree.{SearchTree, preorder, at_path, worth_at, bound_at, below}
+use Rattle.yew_laws.specs.Tree.{Member, paths as member_paths, IsRanked, IsBounded}
+use Rattle.yew_laws.proofs.Bags.{same-is, same-trans}
+use Rattle.yew_laws.proofs.Folds.{fold-SameBag}
+use Rattle.yew_laws.proofs.Incumbents.{prefixed-nil}
+use Rattle.yew_laws.proofs.PathTests.{is_path-same, is_path-is, suc_not_zero}
+use Rattle.yew_laws.proofs.Trees.{tree-node_at}
+use Rattle.yew_log.specs.Attained.{Attained, limit}
+use Rattle.yew_log.specs.Notes.{Judgement, paths, values, maximum}
+use Rattle.yew_walk.specs.Hands.{numbers_of}
+use Rattle.yew_walk.specs.PlainSearch.{NeverCuts}
+use Rattle.yew_crew.specs.CrewSearch.{IsNear, IsGreatest}
+use Rattle.yew_crew.proofs.BestFinds.{nothing, IsNamedBy, IsBestOf}
+use Rattle.yew_crew.proofs.NearBest.{greatest-permitted, visited-greatest, maximum-least, contained-bounds}
+
+limit-low : (gap held : ℕ) → limit gap held ≤ held + gap
+limit-low gap zero = omega arith
+limit-low gap (suc h) = let e : limit gap (suc h) ≡ suc h + gap = ap (λ b. if b then 0 else suc h + gap) (suc_not_zero h) in omega arith
+
+-- what holds of each member of a list holds of one of them
+of-contained : {X : Type 0} (P : X → Type 0) (xs : List X) (x : X) → AllByRecursion P xs → Contains xs x → P x
+of-contained P xs x a c = All-contains P xs x (All-from_recursion P xs a) c
+
+module _ {N : Type 0} (t : SearchTree N) {sound : N → Type 0} (ranked : IsRanked sound t.children t.rank) (bounded : IsBounded sound t.children t.worth t.bound) (root_sound : sound t.root) (gap : ℕ) (visits cuts : List Judgement) (cover : Cover t (paths visits) (paths cuts)) (attained : Attained t gap visits cuts) where
+  -- the best visit is within the gap of the best node
+  pub best-near : (found : Incumbent) (path : Option PathValue) → IsBestOf visits found → numbers_of path ≡ found.path → IsNear t gap found.worth path
+  best-near found path best path_is =
+      let top = maximum (values visits) in
+      let w : found.worth ≡ top = best.greatest in
+      let permitted = greatest-permitted t ranked bounded root_sound gap visits cuts cover attained in
+      let low = limit-low gap top in
+      let high = visited-greatest t ranked bounded root_sound gap visits cuts cover attained in
+      record {
+        within = omega arith;
+        none_greater = omega arith;
+        no_answer = λ z. (let e : top ≡ 0 = sym w ∙ z in let l : limit gap top ≡ 0 = ap (limit gap) e in omega arith);
+        absent = (λ h. unnamed path h path_is best.named, λ z. unless path path_is z best.named);
+        has_worth = worth path path_is best.named;
+      }
+    where
+      unnamed : (path : Option PathValue) → IsNone path → numbers_of path ≡ found.path
+          → (found ≡ nothing) ⊎ ((v : Judgement) × IsNamedBy visits found v) → found.worth ≡ 0
+      unnamed path h e (inl none) = ap (λ (i : Incumbent). i.worth) none
+      unnamed None h e (inr named) = absurd (none-some named.0.path (e ∙ named.1.path_is))
+      unnamed (Some p) h e (inr named) = absurd (cc)
+
+      unless : (path : Option PathValue) → numbers_of path ≡ found.path → found.worth ≡ 0
+          → (found ≡ nothing) ⊎ ((v : Judgement) × IsNamedBy visits found v) → IsNone path
+      unless None e z named = refl
+      unless (Some p) e z (inl none) = absurd (none-some p.numbers (sym (e ∙ ap (λ (i : Incumbent). i.path) none)))
+      unless (Some p) e z (inr named) = absurd (let k = named.1.worth_is in let a = named.1.answers in omega arith)
+
+      worth : (path : Option PathValue) → numbers_of path ≡ found.path → (found ≡ nothing) ⊎ ((v : Judgement) × IsNamedBy visits found v)
+          → IfSome path (λ p. worth_at t p.numbers ≡ Some found.worth)
+      worth None e named = tt
+      worth (Some p) e (inl none) = absurd (none-some p.numbers (sym (e ∙ ap (λ (i : Incumbent). i.path) none)))
+      worth (Some p) e (inr named) =
+          let v = named.0 in
+          let same : Some p.numbers ≡ Some v.path = e ∙ named.1.path_is in
+          let is : p.numbers ≡ v.path = cc in
+          ap (worth_at t) is ∙ (of-contained (λ (j : Judgement). worth_at t j.path ≡ Some j.value) visits v attained.worths named.1.there ∙ ap Some (sym named.1.worth_is))
+
+-- without a gap it is the greatest worth
+pub near-greatest : {N : Type 0} (t : SearchTree N) (worth : ℕ) (path : Option PathValue) → IsNear t 0 worth path → IsGreatest t worth path
+near-greatest t worth path near = record { worth_is = (let a = near.within in let b = near.none_greater in omega arith); absent = near.absent; has_worth = near.has_worth }
+
+module _ {N : Type 0} (t : SearchTree N) (never : NeverCuts t) (gap : ℕ) (visits : List Judgement) where
+  -- where no node is an answer and each bound is above 0, nothing is cut
+  pub none-cut : (cuts : List Judgement) → Attained t gap visits cuts → cuts ≡ []
+  none-cut cuts attained = none-of cuts attained.bounds attained.permitted (behind visits cuts attained.attained)
+    where
+      behind : (vs cs : List Judgement) → AllByRecursion (λ (j : Judgement). (j.held ≡ 0) ⊎ Contains (values visits) j.held) (vs ++ cs)
+          → AllByRecursion (λ (j : Judgement). (j.held ≡ 0) ⊎ Contains (values visits) j.held) cs
+      behind [] cs a = a
+      behind (v ∷ vs) cs a = behind vs cs a.1
+
+      worthless : (vs : List Judgement) → AllByRecursion (λ (v : Judgement). worth_at t v.path ≡ Some v.value) vs → AllByRecursion (λ n. n ≤ 0) (values vs)
+      worthless [] a = tt
+      worthless (v ∷ vs) a = (own (at_path t v.path) refl, worthless vs a.1)
+        where
+          own : (found : Option N) → at_path t v.path ≡ found → v.value ≤ 0
+          own None e = absurd (none-some v.value (sym (ap (option_map t.worth) e) ∙ a.0))
+          own (Some n) e = let is : Some (t.worth n) ≡ Some v.value = sym (ap (option_map t.worth) e) ∙ a.0 in let same : t.worth n ≡ v.value = cc in let z = never.no_answer n in omega arith
+
+      none-of : (cs : List Judgement) → AllByRecursion (λ (c : Judgement). bound_at t c.path ≡ Some c.value) cs
+          → AllByRecursion (λ (c : Judgement). c.value ≤ limit gap c.held) cs
+          → AllByRecursion (λ (c : Judgement). (c.held ≡ 0) ⊎ Contains (values visits) c.held) cs → cs ≡ []
+      none-of [] b p a = refl
+      none-of (c ∷ cs) b p a =
+          let low = maximum-least (values visits) 0 (worthless visits attained.worths) in
+          let held : c.held ≡ 0 = ⊎_elim (λ (z : c.held ≡ 0). z) (λ (h : Contains (values visits) c.held). (let le = contained-bounds (values visits) c.held h in omega arith)) a.0 in
+          let none : limit gap c.held ≡ 0 = ap (limit gap) held in
+          let le = p.0 in
+          absurd (positive (at_path t c.path) refl (omega arith))
+        where
+          positive : (found : Option N) → at_path t c.path ≡ found → c.value ≤ 0 → ⊥
+          positive None e z = none-some c.value (sym (ap (option_map t.bound) e) ∙ b.0)
+          positive (Some n) e z = let is : Some (t.bound n) ≡ Some c.value = sym (ap (option_map t.bound) e) ∙ b.0 in let same : t.bound n ≡ c.value = cc in let pos = never.promising n in absurd (omega arith)
+
+  module _ {sound : N → Type 0} (ranked : IsRanked sound t.children t.rank) (root_sound : sound t.root) {S : Type 0} {fits : S → Type 0} (join : S → S → S) (none : S) (tally : IsTally fits join none) (of : N → ℕ → S) (of_fits : (n : N) (depth : ℕ) → fits (of n depth)) where
+    -- what a path adds to the sum
+    abbrev of_found : List ℕ → Option N → S
+    of_found path None = none
+    of_found path (Some n) = of n (length path)
+
+    abbrev of_path : List ℕ → S
+    of_path path = of_found path (at_path t path)
+
+    of_path-fits : (path : List ℕ) → fits (of_path path)
+    of_path-fits path = by (at_path t path)
+      where
+        by : (found : Option N) → fits (of_found path found)
+        by None = tally.none_fits
+        by (Some n) = of_fits n (length path)
+
+    by_paths : (ms : List (Member N)) → AllByRecursion (λ m. at_path t m.path ≡ Some m.node) ms
+        → fold_of join none (of_member of) ms ≡ fold_of join none of_path (member_paths ms)
+    by_paths [] at = refl
+    by_paths (m ∷ ms) at = ap₂ join (sym (ap (of_found m.path) at.0)) (by_paths ms at.1)
+
+    -- the sum of the visited nodes is that of the tree
+    pub sum-whole : (cuts : List Judgement) (members : List (Member N)) → Cover t (paths visits) (paths cuts) → Attained t gap visits cuts
+        → AllByRecursion (λ m. at_path t m.path ≡ Some m.node) members → member_paths members ≡ paths visits
+        → fold_of join none (of_member of) members ≡ Fold t join none of
+    sum-whole cuts members cover attained at paths_are =
+        let no_cuts : paths cuts ≡ [] = ap paths (none-cut cuts attained) in
+        let bag : SameBag (member_paths members) (member_paths (preorder t)) =
+        same-trans (same-is (paths_are ∙ sym (append-nil (paths visits))))
+        (same-trans (same-is (ap (λ cs. paths visits ++ flat_map (below t) cs) (sym no_cuts)))
+        (same-trans cover.each_once (same-is (ap member_paths (prefixed-nil (preorder t)))))) in
+        by_paths members at ∙ (fold-SameBag tally of_path of_path-fits is_path is_path-same is_path-is (member_paths members) (member_paths (preorder t)) bag ∙ sym (by_paths (preorder t) (tree-node_at ranked t.root root_sound)))

@@ -1,0 +1,14 @@
+pub mod CrewSearch
+pub mod Crews
+pub mod Gathering
+pub mod Groups
+pub mod Joining
+pub mod Looks
+pub mod OpenRule
+pub mod OpenSeats
+pub mod OpenViews
+pub mod OutletLaws
+pub mod Outlets
+pub mod Reports
+pub mod Stations
+pub mod Working

@@ -1,0 +1,13 @@
+pub mod Keeps
+pub mod Ties
+pub mod Taking
+pub mod Folding
+pub mod Emptying
+pub mod Merging
+pub mod Looking
+pub mod Starting
+pub mod Seating
+pub mod Order
+pub mod Apart
+pub mod Left
+pub mod Trying

@@ -1,0 +1,10 @@
+use Rattle.std.specs.Prelude.{map, Some, vec_len}
+use Rattle.yew_pool.specs.Closing.{deques}
+use Rattle.yew_pool.specs.Making.{IsSeating}
+use Rattle.yew_pool.proofs.making.make_passes.Given as goal
+
+abbrev pub invariant-loop-own : goal.invariant-loop-own
+invariant-loop-own g l = IsSeating (Some l.problem) (deques l.fn.owns.items) l.owns.items (map (λ row. row.items) l.rows.items) l.passes.items
+
+abbrev pub decreases-loop-own : goal.decreases-loop-own
+decreases-loop-own g l = vec_len l.owns
