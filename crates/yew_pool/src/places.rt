@@ -19,7 +19,12 @@ use yew_tasks::Carried;
 
 type Owner<P> = Worker<<P as Carried>::Task, Global, Hand<<P as Carried>::Task, P>, Conserves<P>>;
 
-pub type Thief<P> = Stealer<<P as Carried>::Task, Global, Hand<<P as Carried>::Task, P>, Conserves<P>>;
+pub type Thief<P> = Stealer<
+    <P as Carried>::Task,
+    Global,
+    Hand<<P as Carried>::Task, P>,
+    Conserves<P>,
+>;
 
 /// The deque of a pass, which the pass owns. Contracts see which deque it is and what its owner knows. How often the
 /// owner finds it empty is counted at the place that the pass has there.
