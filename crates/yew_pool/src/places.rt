@@ -211,7 +211,8 @@ impl<P: Carried> Place<P> {
     // One try to take the first task.
     fn try_steal(&mut self) -> Steal<P::Task>
         requires { 0 < self.old.hand.share }
-        ensures { MatchSteal result (self.new ≡ self.old) (self.new ≡ self.old) (λ task. (self.new ≡ record self.old { hand = has_taken self.old.hand task }) × IsSoundFor P.carries self.old.hand.problem task) }
+        ensures { MatchSteal result (self.new ≡ self.old) (self.new ≡ self.old)
+            (λ task. (self.new ≡ record self.old { hand = has_taken self.old.hand task }) × IsSoundFor P.carries self.old.hand.problem task) }
     {
         self.stealer.steal_as::<Steals<P>>(&mut self.pass)
     }

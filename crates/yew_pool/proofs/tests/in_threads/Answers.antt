@@ -8,5 +8,6 @@ map_vec-requires-after_bounds g c κs within = λ i x h e.
 
 pub returns : goal.returns
 returns g c =
-    let same : length c.in_ok-after.after.items ≡ length c.args.passes.items = omega (arith, c.in_ok-after.ensures.len, c.in_ok-after.after.ok.0, c.args.passes.ok.0) in
+    let same : length c.in_ok-after.after.items ≡ length c.args.passes.items =
+    omega (arith, c.in_ok-after.ensures.len, c.in_ok-after.after.ok.0, c.args.passes.ok.0) in
     (λ i d h. (c.in_ok-after.ensures.each i d (omega (arith, h, same))).1.call.met, same)
