@@ -1,5 +1,6 @@
 -- All passes are put together, deque by deque, and each deque is emptied.
-use Rattle.std.proofs.Common.{◌≡◌, ℕ, ◌+◌, ◌<◌, ◌≤◌, ◌∙◌, ◌-◌, zero, suc, List, [], ◌∷◌, ◌++◌, length, set, get_or, sym, refl, ap, subst, append_assoc, append-nil, length-append, arith}
+use Rattle.std.proofs.Common.{◌≡◌, ℕ, ◌+◌, ◌<◌, ◌≤◌, ◌∙◌, ◌-◌, zero, suc, List, [], ◌∷◌, ◌++◌, length, set, get_or, sym, refl, ap, subst, append_assoc}
+use Rattle.std.proofs.Common.{append-nil, length-append, arith}
 use Rattle.std.specs.Prelude.{All, sum_by}
 use Rattle.std.proofs.lemmas.List.Elements.{All-push, All-nil}
 use Rattle.std.proofs.lemmas.List.Sums.{sum_by_push, sum_by-cons, sum_by-append, sum_by-set}
@@ -22,7 +23,8 @@ module _ {T Q : Type 0} where
   joined own place = record { deque = own.deque; hand = both_of own.hand place.hand; found_empty = own.found_empty }
 
   -- where the next place is of the deque with its number
-  pub at_seam : (now rest : List (PlaceView T Q)) (place d : PlaceView T Q) (more : List DequeId) → deques now ≡ deques (rest ++ place ∷ []) ++ more → (length rest < length now) × ((get_or now (length rest) d).deque ≡ place.deque)
+  pub at_seam : (now rest : List (PlaceView T Q)) (place d : PlaceView T Q) (more : List DequeId) → deques now ≡ deques (rest ++ place ∷ []) ++ more
+      → (length rest < length now) × ((get_or now (length rest) d).deque ≡ place.deque)
   unfolding tail
   at_seam [] [] place d more e = absurd (let l = ap (λ (xs : List DequeId). length xs) e in omega arith)
   at_seam [] (r ∷ rs) place d more e = absurd (let l = ap (λ (xs : List DequeId). length xs) e in omega arith)
@@ -42,20 +44,25 @@ module _ {T Q : Type 0} where
   }
 
   -- the next place of the row belongs to the owner at its number
-  pub fold_at : (before row more rest now : List (PlaceView T Q)) (place d : PlaceView T Q) → IsFolding before row more now → more ≡ rest ++ place ∷ [] → (length rest < length now) × ((get_or now (length rest) d).deque ≡ place.deque)
-  fold_at before row more rest now place d is e = at_seam now rest place d is.more (is.same ∙ (is.ahead ∙ ap (λ (l : List (PlaceView T Q)). deques l ++ is.more) e))
+  pub fold_at : (before row more rest now : List (PlaceView T Q)) (place d : PlaceView T Q) → IsFolding before row more now → more ≡ rest ++ place ∷ []
+      → (length rest < length now) × ((get_or now (length rest) d).deque ≡ place.deque)
+  fold_at before row more rest now place d is e =
+      at_seam now rest place d is.more (is.same ∙ (is.ahead ∙ ap (λ (l : List (PlaceView T Q)). deques l ++ is.more) e))
 
-  pub fold_more : (before row more rest now : List (PlaceView T Q)) (place own : PlaceView T Q) → IsFolding before row more now → more ≡ rest ++ place ∷ [] → get_or now (length rest) own ≡ own
+  pub fold_more : (before row more rest now : List (PlaceView T Q)) (place own : PlaceView T Q) → IsFolding before row more now → more ≡ rest ++ place ∷ []
+      → get_or now (length rest) own ≡ own
       → IsFolding before row rest (set now (length rest) (joined own place))
   fold_more before row more rest now place own is' e here =
       let is : IsFolding before row (rest ++ place ∷ []) now = subst (λ (l : List (PlaceView T Q)). IsFolding before row l now) e is' in
       let k = length rest in let w = joined own place in
       let within = (at_seam now rest place own is.more (is.same ∙ is.ahead)).0 in record {
         more = place.deque ∷ is.more;
-        ahead = is.ahead ∙ (ap (λ (l : List DequeId). l ++ is.more) (map-append (λ (p : PlaceView T Q). p.deque) rest (place ∷ [])) ∙ append_assoc (deques rest) (place.deque ∷ []) is.more);
+        ahead = is.ahead ∙ (ap (λ (l : List DequeId). l ++ is.more) (map-append (λ (p : PlaceView T Q). p.deque) rest (place ∷ []))
+            ∙ append_assoc (deques rest) (place.deque ∷ []) is.more);
         same = map-set_same (λ (p : PlaceView T Q). p.deque) now k w own (sym (ap (λ (p : PlaceView T Q). p.deque) here)) ∙ is.same;
         problems = map-set_same (λ (p : PlaceView T Q). p.hand.problem) now k w own (sym (ap (λ (p : PlaceView T Q). p.hand.problem) here)) ∙ is.problems;
-        wholes = (let f : PlaceView T Q → ℕ = λ p. p.hand.whole in let s = sum_by-set f now k w own within in let a = ap f here in let i = is.wholes in omega (arith, s, a, i));
+        wholes = (let f : PlaceView T Q → ℕ = λ p. p.hand.whole in let s = sum_by-set f now k w own within in let a = ap f here in let i = is.wholes in
+            omega (arith, s, a, i));
         shares = (
             let f : PlaceView T Q → ℕ = λ p. p.hand.share in let s = sum_by-set f now k w own within in let a = ap f here in
             let b = sum_by_push f rest place in let i = is.shares in omega (arith, s, a, b, i)
@@ -71,16 +78,20 @@ module _ {T Q : Type 0} where
       }
 
   -- the same, as a call picks the number and the new owner
-  pub fold_at_as : (before row more rest now : List (PlaceView T Q)) (place d : PlaceView T Q) (k : ℕ) → k ≡ length rest → IsFolding before row more now → more ≡ rest ++ place ∷ [] → (k < length now) × ((get_or now k d).deque ≡ place.deque)
-  fold_at_as before row more rest now place d k len is e = subst (λ (j : ℕ). (j < length now) × ((get_or now j d).deque ≡ place.deque)) (sym len) (fold_at before row more rest now place d is e)
+  pub fold_at_as : (before row more rest now : List (PlaceView T Q)) (place d : PlaceView T Q) (k : ℕ) → k ≡ length rest → IsFolding before row more now
+      → more ≡ rest ++ place ∷ [] → (k < length now) × ((get_or now k d).deque ≡ place.deque)
+  fold_at_as before row more rest now place d k len is e =
+      subst (λ (j : ℕ). (j < length now) × ((get_or now j d).deque ≡ place.deque)) (sym len) (fold_at before row more rest now place d is e)
 
-  pub fold_more_as : (before row more rest now : List (PlaceView T Q)) (place own w : PlaceView T Q) (k : ℕ) → k ≡ length rest → IsFolding before row more now → more ≡ rest ++ place ∷ [] → own ≡ get_or now k own
+  pub fold_more_as : (before row more rest now : List (PlaceView T Q)) (place own w : PlaceView T Q) (k : ℕ) → k ≡ length rest
+      → IsFolding before row more now → more ≡ rest ++ place ∷ [] → own ≡ get_or now k own
       → w ≡ joined own place → IsFolding before row rest (set now k w)
   fold_more_as before row more rest now place own w k len is e here step =
       subst (λ (t : ℕ × PlaceView T Q). IsFolding before row rest (set now t.0 t.1)) (λ i. (sym len i, sym step i))
       (fold_more before row more rest now place own is e (sym (here ∙ ap (λ (j : ℕ). get_or now j own) len)))
 
-  pub drain_begins : (sound : T → Type 0) (before : List T) (own : PlaceView T Q) → PartOfBag own.hand.took own.hand.put → IsDraining sound before before own own
+  pub drain_begins : (sound : T → Type 0) (before : List T) (own : PlaceView T Q) → PartOfBag own.hand.took own.hand.put
+      → IsDraining sound before before own own
   drain_begins sound before own part = record {
     rest = [];
     appended = sym (append-nil _);
@@ -93,7 +104,8 @@ module _ {T Q : Type 0} where
     part = part;
   }
 
-  pub drain_more : (sound : T → Type 0) (before after later : List T) (first now next : PlaceView T Q) (x : T) → IsDraining sound before after first now → next ≡ taken now x → sound x → PartOfBag (now.hand.took ++ x ∷ []) now.hand.put
+  pub drain_more : (sound : T → Type 0) (before after later : List T) (first now next : PlaceView T Q) (x : T) → IsDraining sound before after first now
+      → next ≡ taken now x → sound x → PartOfBag (now.hand.took ++ x ∷ []) now.hand.put
       → later ≡ after ++ x ∷ [] → IsDraining sound before later first next
   drain_more sound before after later first now next x is step good part longer = record {
     rest = is.rest ++ x ∷ [];
@@ -108,10 +120,12 @@ module _ {T Q : Type 0} where
   }
 
   -- with the whole share each task that is taken lessens what can still be taken
-  pub drains_less : (now next : PlaceView T Q) (x : T) → next ≡ taken now x → PartOfBag (now.hand.took ++ x ∷ []) now.hand.put → length next.hand.put - length next.hand.took < length now.hand.put - length now.hand.took
+  pub drains_less : (now next : PlaceView T Q) (x : T) → next ≡ taken now x → PartOfBag (now.hand.took ++ x ∷ []) now.hand.put
+      → length next.hand.put - length next.hand.took < length now.hand.put - length now.hand.took
   drains_less now next x step part =
       let a = ap (λ (t : PlaceView T Q). length t.hand.put) step in let b = ap (λ (t : PlaceView T Q). length t.hand.took) step in
-      let c = part.weighs (λ _. 1) in let d = ones (now.hand.took ++ x ∷ []) in let e = ones now.hand.put in let f = longer now.hand.took x in omega (arith, a, b, c, d, e, f)
+      let c = part.weighs (λ _. 1) in let d = ones (now.hand.took ++ x ∷ []) in let e = ones now.hand.put in let f = longer now.hand.took x in
+      omega (arith, a, b, c, d, e, f)
     where
       ones : (xs : List T) → sum_by (λ _. 1) xs ≡ length xs
       ones [] = refl
@@ -125,19 +139,23 @@ module _ {T Q : Type 0} where
   drain_ends own whole balances = record { weighs = λ h. (let b = balances whole h in omega (arith, b)) }
 
   -- owners none of whom has more than the whole share, and whose shares add up to the wholes, have the whole share each
-  pub last_whole : (owns : List (PlaceView T Q)) (own : PlaceView T Q) → All (λ (o : PlaceView T Q). o.hand.share ≤ o.hand.whole) (owns ++ own ∷ []) → share_of (owns ++ own ∷ []) ≡ whole_of (owns ++ own ∷ [])
+  pub last_whole : (owns : List (PlaceView T Q)) (own : PlaceView T Q) → All (λ (o : PlaceView T Q). o.hand.share ≤ o.hand.whole) (owns ++ own ∷ [])
+      → share_of (owns ++ own ∷ []) ≡ whole_of (owns ++ own ∷ [])
       → (own.hand.share ≡ own.hand.whole) × (share_of owns ≡ whole_of owns)
   last_whole owns own most same =
       let a = sum_by_push (λ (o : PlaceView T Q). o.hand.share) owns own in let b = sum_by_push (λ (o : PlaceView T Q). o.hand.whole) owns own in
-      let l = below owns (λ k d h. subst (λ (o : PlaceView T Q). o.hand.share ≤ o.hand.whole) (get_or_append_left owns (own ∷ []) d k h) (most k d (omega (arith, h, length-append owns (own ∷ []))))) in
-      let m = subst (λ (o : PlaceView T Q). o.hand.share ≤ o.hand.whole) (get_or-append_seam owns own [] own) (most (length owns) own (omega (arith, length-append owns (own ∷ [])))) in
+      let l = below owns (λ k d h. subst (λ (o : PlaceView T Q). o.hand.share ≤ o.hand.whole) (get_or_append_left owns (own ∷ []) d k h)
+      (most k d (omega (arith, h, length-append owns (own ∷ []))))) in
+      let m = subst (λ (o : PlaceView T Q). o.hand.share ≤ o.hand.whole) (get_or-append_seam owns own [] own)
+      (most (length owns) own (omega (arith, length-append owns (own ∷ [])))) in
       (omega (arith, a, b, l, m, same), omega (arith, a, b, l, m, same))
     where
       below : (os : List (PlaceView T Q)) → All (λ (o : PlaceView T Q). o.hand.share ≤ o.hand.whole) os → share_of os ≤ whole_of os
       below [] all = omega arith
       below (o ∷ os) all =
           let h : o.hand.share ≤ o.hand.whole = all 0 o (omega arith) in let r = below os (λ k d h. all (suc k) d (omega (arith, h))) in
-          let a = sum_by-cons (λ (p : PlaceView T Q). p.hand.share) o os in let b = sum_by-cons (λ (p : PlaceView T Q). p.hand.whole) o os in omega (arith, h, r, a, b)
+          let a = sum_by-cons (λ (p : PlaceView T Q). p.hand.share) o os in let b = sum_by-cons (λ (p : PlaceView T Q). p.hand.whole) o os in
+          omega (arith, h, r, a, b)
 
   set_same : (l : List (PlaceView T Q)) (k : ℕ) (w d : PlaceView T Q) → w ≡ get_or l k d → set l k w ≡ l
   set_same [] k w d e = refl
@@ -152,7 +170,8 @@ module _ {T Q : Type 0} where
   pub settle_begins : (before : List (PlaceView T Q)) → AreSettled before 0 before
   settle_begins before = record { same = refl; each = λ number d below within. absurd (omega arith) }
 
-  pub settle_more : (before now : List (PlaceView T Q)) (k : ℕ) (own w : PlaceView T Q) → AreSettled before k now → own ≡ get_or now k own → w ≡ own → own.hand.share ≤ own.hand.whole → (own.hand.share ≡ own.hand.whole → PartOfBag own.hand.took own.hand.put)
+  pub settle_more : (before now : List (PlaceView T Q)) (k : ℕ) (own w : PlaceView T Q) → AreSettled before k now → own ≡ get_or now k own → w ≡ own
+      → own.hand.share ≤ own.hand.whole → (own.hand.share ≡ own.hand.whole → PartOfBag own.hand.took own.hand.put)
       → k < length now → AreSettled before (suc k) (set now k w)
   settle_more before now k own w is here step most part within = record {
     same = set_same now k w own (step ∙ here) ∙ is.same;
@@ -161,7 +180,9 @@ module _ {T Q : Type 0} where
     where
       pick : (j : ℕ) (d : PlaceView T Q) → j < length before → Dec (j ≡ k) → j < suc k → Settled (get_or before j d)
       pick j d inside (yes e) below =
-          subst (λ (t : PlaceView T Q). Settled t) (here ∙ (same_default now k own d within ∙ (ap (λ (l : List (PlaceView T Q)). get_or l k d) is.same ∙ ap (λ (i : ℕ). get_or before i d) (sym e)))) record { most = most; part = part }
+          subst (λ (t : PlaceView T Q). Settled t)
+          (here ∙ (same_default now k own d within
+          ∙ (ap (λ (l : List (PlaceView T Q)). get_or l k d) is.same ∙ ap (λ (i : ℕ). get_or before i d) (sym e)))) record { most = most; part = part }
       pick j d inside (no ne) below = is.each j d (omega arith) inside
 
   pub settle_ends : (before now : List (PlaceView T Q)) (k : ℕ) → AreSettled before k now → length before ≤ k → All Settled before

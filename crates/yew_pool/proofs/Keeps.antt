@@ -1,5 +1,6 @@
 -- Each step of a pass keeps the rule of a deque.
-use Rattle.std.proofs.Common.{length-append, ◌≡◌, ℕ, ◌+◌, ◌<◌, ◌≢◌, ◌∙◌, true, false, List, [], ◌∷◌, ◌++◌, set, refl, sym, ap, subst, inl, inr, ⊎_elim, arith, zero, suc}
+use Rattle.std.proofs.Common.{length-append, ◌≡◌, ℕ, ◌+◌, ◌<◌, ◌≢◌, ◌∙◌, true, false, List, [], ◌∷◌, ◌++◌, set, refl, sym, ap, subst, inl, inr, ⊎_elim}
+use Rattle.std.proofs.Common.{arith, zero, suc}
 use Rattle.std.specs.Prelude.{All, sum_by, Option, Some, None}
 use Rattle.std.proofs.lemmas.List.Elements.{All-append, All-nil}
 use Rattle.std.proofs.lemmas.List.Sums.{sum_by_push, sum_by-append}
@@ -10,7 +11,8 @@ use Rattle.crossbeam_deque.specs.Tasks as tasks
 use Rattle.crossbeam_deque.specs.Tasks.{Pushes, Finds, FindsFew, Forks, Merges, Learns}
 use Rattle.yew_laws.proofs.Views.{at_set, at_snoc, total_set, total_split, total_join, one_part, two_parts, total_alone}
 use Rattle.yew_pool.specs.declared.rule.Hand.{Hand}
-use Rattle.yew_pool.specs.Rule.{hand, unopened, spent, started, has_put, left_of, right_of, both_of, Fits, IsUnopened, IsOpen, Conserved, Balances, Takes, Settles}
+use Rattle.yew_pool.specs.Rule.{hand, unopened, spent, started, has_put, left_of, right_of, both_of, Fits, IsUnopened, IsOpen, Conserved, Balances, Takes}
+use Rattle.yew_pool.specs.Rule.{Settles}
 
 All-single : {X : Type 0} (P : X → Type 0) (x : X) → P x → All P (x ∷ [])
 All-single P x p zero d h = p
@@ -25,8 +27,11 @@ All-right P (x ∷ xs) ys a = All-right P xs ys (λ k d h. a (suc k) d (omega ar
 
 module _ {T Q : Type 0} (sound : Q → T → Type 0) where
   -- a pass with a share has been told the problem
-  open_of : (items : List T) (views : List (Hand T Q)) (pass : ℕ) (v : Hand T Q) → 0 < v.share → Conserved sound items views → get_elem? views pass ≡ some v → (problem : Q) × (whole : ℕ) × IsOpen sound problem whole items views
-  open_of items views pass v some_share holds at = ⊎_elim (λ (u : IsUnopened sound items views). absurd (shareless pass v some_share (subst (λ (l : List (Hand T Q)). get_elem? l pass ≡ some v) u.alone at))) (λ o. o) holds
+  open_of : (items : List T) (views : List (Hand T Q)) (pass : ℕ) (v : Hand T Q) → 0 < v.share → Conserved sound items views → get_elem? views pass ≡ some v
+      → (problem : Q) × (whole : ℕ) × IsOpen sound problem whole items views
+  open_of items views pass v some_share holds at =
+      ⊎_elim (λ (u : IsUnopened sound items views). absurd
+      (shareless pass v some_share (subst (λ (l : List (Hand T Q)). get_elem? l pass ≡ some v) u.alone at))) (λ o. o) holds
     where
       shareless : (j : ℕ) (u : Hand T Q) → 0 < u.share → get_elem? (unopened ∷ []) j ≡ some u → ⊥
       shareless zero u h e = let s = ap (λ (w : Hand T Q). w.share) (some-injective unopened u e) in omega arith
@@ -39,7 +44,8 @@ module _ {T Q : Type 0} (sound : Q → T → Type 0) where
   fits_started problem whole = record { told = refl; mine = λ _. (refl, refl); idle = λ _. (refl, refl) }
 
   -- one pass's view and the contents have changed
-  changed : (problem : Q) (whole : ℕ) (items after : List T) (views : List (Hand T Q)) (pass : ℕ) (v w : Hand T Q) → IsOpen sound problem whole items views → get_elem? views pass ≡ some v
+  changed : (problem : Q) (whole : ℕ) (items after : List T) (views : List (Hand T Q)) (pass : ℕ) (v w : Hand T Q) → IsOpen sound problem whole items views
+      → get_elem? views pass ≡ some v
       → w.share ≡ v.share → Fits problem whole w
       → ((h : T → ℕ) → (sum_by h w.put + sum_by h v.took) + sum_by h items ≡ (sum_by h v.put + sum_by h w.took) + sum_by h after)
       → All (sound problem) after → Conserved sound after (set views pass w)
@@ -54,7 +60,8 @@ module _ {T Q : Type 0} (sound : Q → T → Type 0) where
           let e = is.bag h in let m = moved h in omega (arith, t, s, e, m)
           );
       sound_items = sounds;
-      each = λ j u e. ⊎_elim (λ (t : (j ≡ pass) × (w ≡ u)). subst (λ (k : Hand T Q). Fits problem whole k) t.1 fits) (λ (t : (j ≢ pass) × (get_elem? views j ≡ some u)). is.each j u t.1) (at_set views pass j w u e);
+      each = λ j u e. ⊎_elim (λ (t : (j ≡ pass) × (w ≡ u)). subst (λ (k : Hand T Q). Fits problem whole k) t.1 fits)
+          (λ (t : (j ≢ pass) × (get_elem? views j ≡ some u)). is.each j u t.1) (at_set views pass j w u e);
     },
   )
 
@@ -62,7 +69,8 @@ module _ {T Q : Type 0} (sound : Q → T → Type 0) where
   some_injective a b e = ap (λ (o : Option Q). elim o as (λ _. Q) [ Some x ↦ x | None ↦ a ]) e
 
   -- with the whole share, only this pass has put and taken
-  balances : (problem : Q) (whole : ℕ) (items : List T) (views : List (Hand T Q)) (pass : ℕ) (v : Hand T Q) → 0 < v.share → IsOpen sound problem whole items views → get_elem? views pass ≡ some v → Balances v items
+  balances : (problem : Q) (whole : ℕ) (items : List T) (views : List (Hand T Q)) (pass : ℕ) (v : Hand T Q) → 0 < v.share
+      → IsOpen sound problem whole items views → get_elem? views pass ≡ some v → Balances v items
   balances problem whole items views pass v some_share is at all h =
       let mine = (is.each pass v at).mine some_share in
       let others : (j : ℕ) (u : Hand T Q) → j ≢ pass → get_elem? views j ≡ some u → (u.put ≡ []) × (u.took ≡ []) = λ j u ne e. (is.each j u e).idle (
@@ -94,13 +102,16 @@ module _ {T Q : Type 0} (sound : Q → T → Type 0) where
             (All-right (sound o.0) xs items is.sound_items),
         record {
           view = refl;
-          is_sound = λ problem told. subst (λ (p : Q). All (sound p) xs) (some_injective o.0 problem (sym mine.0 ∙ told)) (All-left (sound o.0) xs items is.sound_items);
-          more = λ all h. (let e = balances o.0 o.1 (xs ++ items) views pass v some_share is at all h in let b = sum_by-append h xs items in let d = sum_by-append h v.took xs in omega (arith, e, b, d));
+          is_sound = λ problem told. subst (λ (p : Q). All (sound p) xs) (some_injective o.0 problem (sym mine.0 ∙ told))
+              (All-left (sound o.0) xs items is.sound_items);
+          more = λ all h. (let e = balances o.0 o.1 (xs ++ items) views pass v some_share is at all h in let b = sum_by-append h xs items in
+              let d = sum_by-append h v.took xs in omega (arith, e, b, d));
         },
       )
 
   pub learns : (pass : ℕ) (v : Hand T Q) → 0 < v.share → Learns (Conserved sound) pass v (Balances v)
-  learns pass v some_share items views holds at = let o = open_of items views pass v some_share holds at in balances o.0 o.1 items views pass v some_share o.2 at
+  learns pass v some_share items views holds at =
+      let o = open_of items views pass v some_share holds at in balances o.0 o.1 items views pass v some_share o.2 at
 
   pub finds : (pass : ℕ) (v : Hand T Q) → 0 < v.share → Finds (Conserved sound) pass v (Balances v [])
   finds pass v some_share views holds at = learns pass v some_share [] views holds at
@@ -170,7 +181,8 @@ module _ {T Q : Type 0} (sound : Q → T → Type 0) where
               let s = total_split (λ (u : Hand T Q). sum_by h u.took) views pass v w v at in let e = is.bag h in omega (arith, t, s, e)
               );
           sound_items = is.sound_items;
-          each = λ j u e. ⊎_elim (λ (t : get_elem? middle j ≡ some u). ⊎_elim (λ (g : (j ≡ pass) × (w ≡ u)). subst (λ (k : Hand T Q). Fits o.0 o.1 k) g.1 (fits_spent o.0 o.1))
+          each = λ j u e. ⊎_elim (λ (t : get_elem? middle j ≡ some u). ⊎_elim
+              (λ (g : (j ≡ pass) × (w ≡ u)). subst (λ (k : Hand T Q). Fits o.0 o.1 k) g.1 (fits_spent o.0 o.1))
               (λ (g : (j ≢ pass) × (get_elem? views j ≡ some u)). is.each j u g.1) (at_set views pass j w u t))
               (λ (t : v ≡ u). subst (λ (k : Hand T Q). Fits o.0 o.1 k) t fits) (at_snoc middle v u j e);
         },
@@ -202,7 +214,8 @@ module _ {T Q : Type 0} (sound : Q → T → Type 0) where
 
   -- the first pass is told the problem and the whole share
   pub starts : (pass whole : ℕ) (problem : Q) → Forks (Conserved sound) pass unopened (started whole (Some problem)) spent
-  starts pass whole problem items views holds at = ⊎_elim (λ (u : IsUnopened sound items views). opened u.empty u.alone) (λ o. absurd (untold ((o.2.each pass unopened at).told))) holds
+  starts pass whole problem items views holds at =
+      ⊎_elim (λ (u : IsUnopened sound items views). opened u.empty u.alone) (λ o. absurd (untold ((o.2.each pass unopened at).told))) holds
     where
       untold : true ≡ false → ⊥
       untold e = cc
@@ -229,6 +242,8 @@ module _ {T Q : Type 0} (sound : Q → T → Type 0) where
   opens = inl record { empty = refl; alone = refl }
 
   -- the same, as a call picks them
-  pub starts_as : (pass whole whole' : ℕ) (problem : Q) (about : Option Q) (v : Hand T Q) → v ≡ unopened → about ≡ Some problem → whole' ≡ whole → Forks (Conserved sound) pass v (started whole' about) spent
+  pub starts_as : (pass whole whole' : ℕ) (problem : Q) (about : Option Q) (v : Hand T Q) → v ≡ unopened → about ≡ Some problem → whole' ≡ whole
+      → Forks (Conserved sound) pass v (started whole' about) spent
   starts_as pass whole whole' problem about v fresh is same =
-      subst (λ (t : Hand T Q × Option Q × ℕ). Forks (Conserved sound) pass t.0 (started t.2 t.1) spent) (λ i. (sym fresh i, sym is i, sym same i)) (starts pass whole problem)
+      subst (λ (t : Hand T Q × Option Q × ℕ). Forks (Conserved sound) pass t.0 (started t.2 t.1) spent) (λ i. (sym fresh i, sym is i, sym same i))
+      (starts pass whole problem)

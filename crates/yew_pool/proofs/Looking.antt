@@ -1,5 +1,6 @@
 -- What a pass counts that finds deques empty.
-use Rattle.std.proofs.Common.{◌≡◌, ◌≢◌, ◌⊎◌, ℕ, ◌+◌, ◌<◌, ◌≤◌, ◌∙◌, List, [], ◌∷◌, ◌++◌, inl, inr, ⊎_elim, length, map, set, get_or, sym, refl, ap, subst, ext_get_or, arith}
+use Rattle.std.proofs.Common.{◌≡◌, ◌≢◌, ◌⊎◌, ℕ, ◌+◌, ◌<◌, ◌≤◌, ◌∙◌, List, [], ◌∷◌, ◌++◌, inl, inr, ⊎_elim, length, map, set, get_or, sym, refl, ap, subst}
+use Rattle.std.proofs.Common.{ext_get_or, arith}
 use Rattle.std.specs.Prelude.{Option, Some, None, IfNone}
 use Rattle.std.specs.List.{flat_map}
 use Rattle.std.proofs.lemmas.Bool.{cases_lt}
@@ -22,22 +23,29 @@ module _ {T Q : Type 0} where
   found : PlaceView T Q → ℕ
   found place = place.found_empty
 
-  same_taken : (places : List (PlaceView T Q)) (at : ℕ) (w : PlaceView T Q) → w.hand.took ≡ (get_or places at w).hand.took → taken_at (set places at w) ≡ taken_at places
+  same_taken : (places : List (PlaceView T Q)) (at : ℕ) (w : PlaceView T Q) → w.hand.took ≡ (get_or places at w).hand.took
+      → taken_at (set places at w) ≡ taken_at places
   same_taken places at w same =
       let took = λ (p : PlaceView T Q). p.hand.took in
-      sym (flat_map-map (λ l. l) took (set places at w)) ∙ (ap (λ (ls : List (List T)). flat_map (λ l. l) ls) (map-set_same took places at w w same) ∙ flat_map-map (λ l. l) took places)
+      sym (flat_map-map (λ l. l) took (set places at w))
+      ∙ (ap (λ (ls : List (List T)). flat_map (λ l. l) ls) (map-set_same took places at w w same) ∙ flat_map-map (λ l. l) took places)
 
   -- one deque was found empty
-  look : (number at : ℕ) (own p : PlaceView T Q) (places : List (PlaceView T Q)) → at < length places → get_or places at p ≡ p → HasLooked at (at + 1) (pass_view number own places) (pass_view number own (set places at (counted p)))
+  look : (number at : ℕ) (own p : PlaceView T Q) (places : List (PlaceView T Q)) → at < length places → get_or places at p ≡ p
+      → HasLooked at (at + 1) (pass_view number own places) (pass_view number own (set places at (counted p)))
   unfolding found
   look number at own p places within here =
       let later = set places at (counted p) in
       let before : get_or places at (counted p) ≡ p = get_or_as places at (counted p) p within here in
       let moved : map found later ≡ set (map found places) at (once_more p.found_empty) = map-set found places at (counted p) in
       let long = length-map places found in
-      let was : get_or (map found places) at 0 ≡ p.found_empty = get_or-map found places at p 0 within ∙ ap (λ (t : PlaceView T Q). t.found_empty) here in record {
+      let was : get_or (map found places) at 0 ≡ p.found_empty = get_or-map found places at p 0 within ∙ ap (λ (t : PlaceView T Q). t.found_empty) here in
+      record {
         same = λ i. record {
-          pool = record { deques = map-set_same (λ (t : PlaceView T Q). t.deque) places at (counted p) (counted p) (sym (ap (λ (t : PlaceView T Q). t.deque) before)) i };
+          pool = record {
+            deques = map-set_same (λ (t : PlaceView T Q). t.deque) places at (counted p) (counted p)
+                (sym (ap (λ (t : PlaceView T Q). t.deque) before)) i;
+          };
           number = number;
           share = 1;
           problem = own.hand.problem;
@@ -49,7 +57,8 @@ module _ {T Q : Type 0} where
         within = λ k first end. (
             let same : k ≡ at = omega arith in
             ap (λ (l : List ℕ). get_or l k 0) moved ∙ (ap (λ j. get_or (set (map found places) at (once_more p.found_empty)) j 0) same
-            ∙ (get_or-set_same (map found places) at (once_more p.found_empty) 0 (omega (arith, long, within)) ∙ (ap once_more (sym was) ∙ ap (λ j. once_more (get_or (map found places) j 0)) (sym same))))
+            ∙ (get_or-set_same (map found places) at (once_more p.found_empty) 0 (omega (arith, long, within))
+            ∙ (ap once_more (sym was) ∙ ap (λ j. once_more (get_or (map found places) j 0)) (sym same))))
             );
         outside = λ k out. (
             let other : k ≢ at = ⊎_elim (λ (h : k < at). omega arith) (λ (h : at + 1 ≤ k). omega arith) out in
@@ -61,36 +70,47 @@ module _ {T Q : Type 0} where
       get_or_as xs j d e below is = get_or_default xs j d e below ∙ is
 
   -- the same, from what is known of the pass and of the place
-  pub looked : (number at : ℕ) (own new p w : PlaceView T Q) (places : List (PlaceView T Q)) (pass : PassView T Q) → pass_view number own places ≡ pass → at < length places → get_or places at p ≡ p → new ≡ own → w ≡ counted p
+  pub looked : (number at : ℕ) (own new p w : PlaceView T Q) (places : List (PlaceView T Q)) (pass : PassView T Q) → pass_view number own places ≡ pass
+      → at < length places → get_or places at p ≡ p → new ≡ own → w ≡ counted p
       → HasLooked at (at + 1) pass (pass_view number new (set places at w))
   looked number at own new p w places pass view within here same step =
-      subst (λ (t : PassView T Q × PlaceView T Q × PlaceView T Q). HasLooked at (at + 1) t.0 (pass_view number t.1 (set places at t.2))) (λ i. (view i, sym same i, sym step i)) (look number at own p places within here)
+      subst (λ (t : PassView T Q × PlaceView T Q × PlaceView T Q). HasLooked at (at + 1) t.0 (pass_view number t.1 (set places at t.2)))
+      (λ i. (view i, sym same i, sym step i)) (look number at own p places within here)
 
-  pub looked_as : (number at : ℕ) (own p w : PlaceView T Q) (places : List (PlaceView T Q)) (pass : PassView T Q) (r : Option T) → pass_view number own places ≡ pass → at < length places → get_or places at p ≡ p
+  pub looked_as : (number at : ℕ) (own p w : PlaceView T Q) (places : List (PlaceView T Q)) (pass : PassView T Q) (r : Option T)
+      → pass_view number own places ≡ pass → at < length places → get_or places at p ≡ p
       → IfNone r (w ≡ counted p) → IfNone r (HasLooked at (at + 1) pass (pass_view number own (set places at w)))
   looked_as number at own p w places pass None view within here step = looked number at own own p w places pass view within here refl step
   looked_as number at own p w places pass (Some x) view within here step = tt
 
-  pub looked_pop : (number : ℕ) (own new p w : PlaceView T Q) (places : List (PlaceView T Q)) (pass : PassView T Q) (r : Option T) → pass_view number own places ≡ pass → number < length places → get_or places number p ≡ p
-      → IfNone r ((new ≡ own) × Balances own.hand []) → IfNone r (w ≡ counted p) → IfNone r (HasLooked pass.number (pass.number + 1) pass (pass_view number new (set places number w)))
+  pub looked_pop : (number : ℕ) (own new p w : PlaceView T Q) (places : List (PlaceView T Q)) (pass : PassView T Q) (r : Option T)
+      → pass_view number own places ≡ pass → number < length places → get_or places number p ≡ p
+      → IfNone r ((new ≡ own) × Balances own.hand []) → IfNone r (w ≡ counted p)
+      → IfNone r (HasLooked pass.number (pass.number + 1) pass (pass_view number new (set places number w)))
   looked_pop number own new p w places pass None view within here none step =
-      subst (λ (k : ℕ). HasLooked k (k + 1) pass (pass_view number new (set places number w))) (ap (λ (t : PassView T Q). t.number) view) (looked number number own new p w places pass view within here none.0 step)
+      subst (λ (k : ℕ). HasLooked k (k + 1) pass (pass_view number new (set places number w))) (ap (λ (t : PassView T Q). t.number) view)
+      (looked number number own new p w places pass view within here none.0 step)
   looked_pop number own new p w places pass (Some x) view within here none step = tt
 
   -- a pass counts at as many deques as its pool has
-  pub counts_each : (number : ℕ) (own : PlaceView T Q) (places : List (PlaceView T Q)) (pass : PassView T Q) → pass_view number own places ≡ pass → length pass.found_empty ≡ length pass.pool.deques
+  pub counts_each : (number : ℕ) (own : PlaceView T Q) (places : List (PlaceView T Q)) (pass : PassView T Q) → pass_view number own places ≡ pass
+      → length pass.found_empty ≡ length pass.pool.deques
   counts_each number own places pass view =
-      subst (λ (t : PassView T Q). length t.found_empty ≡ length t.pool.deques) view (length-map places (λ (t : PlaceView T Q). t.found_empty) ∙ sym (length-map places (λ (t : PlaceView T Q). t.deque)))
+      subst (λ (t : PassView T Q). length t.found_empty ≡ length t.pool.deques) view
+      (length-map places (λ (t : PlaceView T Q). t.found_empty) ∙ sym (length-map places (λ (t : PlaceView T Q). t.deque)))
 
   pub looks_begin : (first : ℕ) (x : PassView T Q) → HasLooked first first x x
   looks_begin first x = record { same = refl; long = refl; within = λ at low high. absurd (omega arith); outside = λ at out. refl }
 
-  pub looks_join : (first middle end : ℕ) (x y z : PassView T Q) → first ≤ middle → middle ≤ end → HasLooked first middle x y → HasLooked middle end y z → HasLooked first end x z
+  pub looks_join : (first middle end : ℕ) (x y z : PassView T Q) → first ≤ middle → middle ≤ end → HasLooked first middle x y → HasLooked middle end y z
+      → HasLooked first end x z
   looks_join first middle end x y z low high a b = record {
     same = b.same ∙ ap (λ (t : PassView T Q). record t { found_empty = z.found_empty }) a.same;
     long = b.long ∙ a.long;
-    within = λ at lo hi. ⊎_elim (λ (h : at < middle). b.outside at (inl h) ∙ a.within at lo h) (λ (h : middle ≤ at). b.within at h hi ∙ ap once_more (a.outside at (inr h))) (cases_lt at middle);
-    outside = λ at out. ⊎_elim (λ (h : at < first). b.outside at (inl (omega arith)) ∙ a.outside at (inl h)) (λ (h : end ≤ at). b.outside at (inr h) ∙ a.outside at (inr (omega arith))) out;
+    within = λ at lo hi. ⊎_elim (λ (h : at < middle). b.outside at (inl h) ∙ a.within at lo h)
+        (λ (h : middle ≤ at). b.within at h hi ∙ ap once_more (a.outside at (inr h))) (cases_lt at middle);
+    outside = λ at out. ⊎_elim (λ (h : at < first). b.outside at (inl (omega arith)) ∙ a.outside at (inl h))
+        (λ (h : end ≤ at). b.outside at (inr h) ∙ a.outside at (inr (omega arith))) out;
   }
 
   pub looks_more : (first at : ℕ) (x y z : PassView T Q) → first ≤ at → HasLooked first at x y → HasLooked at (at + 1) y z → HasLooked first (at + 1) x z
@@ -104,14 +124,16 @@ module _ {T Q : Type 0} where
     long = b.long ∙ a.long;
   }
 
-  pub sound_after : (sound : Q → T → Type 0) (first end : ℕ) (x y : PassView T Q) (task : T) → HasLooked first end x y → IsSoundFor sound y.problem task → IsSoundFor sound x.problem task
+  pub sound_after : (sound : Q → T → Type 0) (first end : ℕ) (x y : PassView T Q) (task : T) → HasLooked first end x y → IsSoundFor sound y.problem task
+      → IsSoundFor sound x.problem task
   sound_after sound first end x y task a good = λ problem about. good problem (ap (λ (t : PassView T Q). t.problem) a.same ∙ about)
 
   pub pool_after : (first end : ℕ) (x y : PassView T Q) → HasLooked first end x y → (y.pool ≡ x.pool) × (y.number ≡ x.number)
   pool_after first end x y a = (ap (λ (t : PassView T Q). t.pool) a.same, ap (λ (t : PassView T Q). t.number) a.same)
 
   -- from the next deque to the last, and from the first to the one before
-  pub looks_round : (own count : ℕ) (x y z : PassView T Q) → own ≡ x.number → count ≡ length x.pool.deques → HasLooked (own + 1) count x y → HasLooked 0 own y z → HasLookedRound x z
+  pub looks_round : (own count : ℕ) (x y z : PassView T Q) → own ≡ x.number → count ≡ length x.pool.deques → HasLooked (own + 1) count x y
+      → HasLooked 0 own y z → HasLookedRound x z
   looks_round own count x y z is long a b = record {
     same = b.same ∙ ap (λ (t : PassView T Q). record t { found_empty = z.found_empty }) a.same;
     long = b.long ∙ a.long;
@@ -124,9 +146,11 @@ module _ {T Q : Type 0} where
       apart at own low other = omega arith
 
   -- each deque was found empty
-  pub looks_all : (x y z : PassView T Q) → length x.found_empty ≡ length x.pool.deques → HasLooked x.number (x.number + 1) x y → HasLookedRound y z → z ≡ record x { found_empty = map once_more x.found_empty }
+  pub looks_all : (x y z : PassView T Q) → length x.found_empty ≡ length x.pool.deques → HasLooked x.number (x.number + 1) x y → HasLookedRound y z
+      → z ≡ record x { found_empty = map once_more x.found_empty }
   looks_all x y z counts a b =
-      b.same ∙ (ap (λ (t : PassView T Q). record t { found_empty = z.found_empty }) a.same ∙ ap (λ (l : List ℕ). record x { found_empty = l }) (ext_get_or 0 z.found_empty (map once_more x.found_empty) long each))
+      b.same ∙ (ap (λ (t : PassView T Q). record t { found_empty = z.found_empty }) a.same
+      ∙ ap (λ (l : List ℕ). record x { found_empty = l }) (ext_get_or 0 z.found_empty (map once_more x.found_empty) long each))
     where
       number : y.number ≡ x.number
       number = ap (λ (t : PassView T Q). t.number) a.same
@@ -139,7 +163,9 @@ module _ {T Q : Type 0} where
 
       at_own : (k : ℕ) → k ≡ x.number → get_or z.found_empty k 0 ≡ once_more (get_or x.found_empty k 0)
       at_own k same =
-          ap (λ j. get_or z.found_empty j 0) (same ∙ sym number) ∙ (b.own ∙ (ap (λ j. get_or y.found_empty j 0) number ∙ (a.within x.number (omega arith) (omega arith) ∙ ap (λ j. once_more (get_or x.found_empty j 0)) (sym same))))
+          ap (λ j. get_or z.found_empty j 0) (same ∙ sym number)
+          ∙ (b.own ∙ (ap (λ j. get_or y.found_empty j 0) number
+          ∙ (a.within x.number (omega arith) (omega arith) ∙ ap (λ j. once_more (get_or x.found_empty j 0)) (sym same))))
 
       at_other : (k : ℕ) → k < length x.found_empty → k ≢ x.number → get_or z.found_empty k 0 ≡ once_more (get_or x.found_empty k 0)
       at_other k below other = b.others k (omega (arith, below, counts, deques)) (λ e. other (e ∙ number)) ∙ ap once_more (a.outside k (off k x.number other))

@@ -26,16 +26,19 @@ module _ {T Q : Type 0} where
       by_case (yes is) = let e = off_here count at x is in omega (arith, e)
       by_case (no other) = let e = off_else count at x other in omega (arith, e)
 
-  misplaced_set : (count at : ℕ) (xs : List (PassView T Q)) (k j : ℕ) (w d : PassView T Q) → k < length xs → at + k ≡ j → misplaced count at (set xs k w) + off_place count j (get_or xs k d) ≡ misplaced count at xs + off_place count j w
+  misplaced_set : (count at : ℕ) (xs : List (PassView T Q)) (k j : ℕ) (w d : PassView T Q) → k < length xs → at + k ≡ j
+      → misplaced count at (set xs k w) + off_place count j (get_or xs k d) ≡ misplaced count at xs + off_place count j w
   unfolding misplaced
   misplaced_set count at [] k j w d below is = absurd (omega arith)
   misplaced_set count at (x ∷ xs) zero j w d below is =
       let e : at ≡ j = omega (arith, is) in
       let a = ap (λ i. off_place count i x) e in let b = ap (λ i. off_place count i w) e in omega (arith, a, b)
-  misplaced_set count at (x ∷ xs) (suc k) j w d below is = let next = misplaced_set count (suc at) xs k j w d (omega arith) (omega (arith, is)) in omega (arith, next)
+  misplaced_set count at (x ∷ xs) (suc k) j w d below is =
+      let next = misplaced_set count (suc at) xs k j w d (omega arith) (omega (arith, is)) in omega (arith, next)
 
   -- a swap that brings a pass to its place
-  swaps_less : (count i j : ℕ) (xs : List (PassView T Q)) (x y : PassView T Q) → i < length xs → j < length xs → i ≢ j → get_or xs i x ≡ x → get_or xs j y ≡ y → x.number + j + 1 ≡ count → y.number ≢ x.number
+  swaps_less : (count i j : ℕ) (xs : List (PassView T Q)) (x y : PassView T Q) → i < length xs → j < length xs → i ≢ j → get_or xs i x ≡ x
+      → get_or xs j y ≡ y → x.number + j + 1 ≡ count → y.number ≢ x.number
       → misplaced count 0 (set (set xs i y) j x) < misplaced count 0 xs
   swaps_less count i j xs x y low high other x_is y_is place apart =
       let a = misplaced_set count 0 xs i i y x low (omega arith) in
@@ -47,26 +50,33 @@ module _ {T Q : Type 0} where
       let g = off_here count j x place in
       let h = off_most count i y in omega (arith, a, b, c, d, e, f, g, h)
 
-  swap_as : (xs ys : List (PassView T Q)) (i j : ℕ) (x y : PassView T Q) → i < length xs → j < length xs → get_or xs i x ≡ x → get_or xs j y ≡ y → ys ≡ swap xs i j → ys ≡ set (set xs i y) j x
+  swap_as : (xs ys : List (PassView T Q)) (i j : ℕ) (x y : PassView T Q) → i < length xs → j < length xs → get_or xs i x ≡ x → get_or xs j y ≡ y
+      → ys ≡ swap xs i j → ys ≡ set (set xs i y) j x
   swap_as xs ys i j x y low high x_is y_is is =
       is ∙ (sym (swap_is xs i j x low high) ∙ (λ k. set (set xs i ((get_or_default xs j x y high ∙ y_is) k)) j (x_is k)))
 
-  pub swaps_less_as : (count i j : ℕ) (xs ys : List (PassView T Q)) (x y : PassView T Q) → i < length xs → j < length xs → i ≢ j → x ≡ get_or xs i x → y ≡ get_or xs j y → x.number + j + 1 ≡ count → y.number ≢ x.number → ys ≡ swap xs i j
+  pub swaps_less_as : (count i j : ℕ) (xs ys : List (PassView T Q)) (x y : PassView T Q) → i < length xs → j < length xs → i ≢ j → x ≡ get_or xs i x
+      → y ≡ get_or xs j y → x.number + j + 1 ≡ count → y.number ≢ x.number → ys ≡ swap xs i j
       → misplaced count 0 ys < misplaced count 0 xs
   swaps_less_as count i j xs ys x y low high other x_is y_is place apart is =
-      subst (λ (l : List (PassView T Q)). misplaced count 0 l < misplaced count 0 xs) (sym (swap_as xs ys i j x y low high (sym x_is) (sym y_is) is)) (swaps_less count i j xs x y low high other (sym x_is) (sym y_is) place apart)
+      subst (λ (l : List (PassView T Q)). misplaced count 0 l < misplaced count 0 xs) (sym (swap_as xs ys i j x y low high (sym x_is) (sym y_is) is))
+      (swaps_less count i j xs x y low high other (sym x_is) (sym y_is) place apart)
 
-  pub order_begins : (pool : PoolId) (count : ℕ) (all : List (PassView T Q)) → All (λ (p : PassView T Q). p.pool ≡ pool) all → length all ≡ count → AreOrdering pool count all all 0
-  order_begins pool count all pools long = record { long = long; bag = same-refl all; pools = pools; told = λ about a. a; placed = λ at d less. absurd (omega arith) }
+  pub order_begins : (pool : PoolId) (count : ℕ) (all : List (PassView T Q)) → All (λ (p : PassView T Q). p.pool ≡ pool) all → length all ≡ count
+      → AreOrdering pool count all all 0
+  order_begins pool count all pools long =
+      record { long = long; bag = same-refl all; pools = pools; told = λ about a. a; placed = λ at d less. absurd (omega arith) }
 
   -- a pass of the pool and its place
-  pub order_at : (pool : PoolId) (at k place : ℕ) (all now : List (PassView T Q)) (x : PassView T Q) → AreOrdering pool (length pool.deques) all now at → k < length now → x ≡ get_or now k x → x.number + place + 1 ≡ length x.pool.deques
+  pub order_at : (pool : PoolId) (at k place : ℕ) (all now : List (PassView T Q)) (x : PassView T Q) → AreOrdering pool (length pool.deques) all now at
+      → k < length now → x ≡ get_or now k x → x.number + place + 1 ≡ length x.pool.deques
       → (x.number + place + 1 ≡ length pool.deques) × (place < length now)
   order_at pool at k place all now x is below here placed =
       let same : x.pool ≡ pool = subst (λ (p : PassView T Q). p.pool ≡ pool) (sym here) (is.pools k x below) in
       let e : x.number + place + 1 ≡ length pool.deques = placed ∙ ap (λ (p : PoolId). length p.deques) same in (e, (let l = is.long in omega (arith, e, l)))
 
-  pub order_next : (pool : PoolId) (count at : ℕ) (all now : List (PassView T Q)) (x : PassView T Q) → AreOrdering pool count all now at → at < length now → x ≡ get_or now at x → x.number + at + 1 ≡ count → AreOrdering pool count all now (at + 1)
+  pub order_next : (pool : PoolId) (count at : ℕ) (all now : List (PassView T Q)) (x : PassView T Q) → AreOrdering pool count all now at → at < length now
+      → x ≡ get_or now at x → x.number + at + 1 ≡ count → AreOrdering pool count all now (at + 1)
   order_next pool count at all now x is below here place = record {
     long = is.long;
     bag = is.bag;
@@ -81,7 +91,8 @@ module _ {T Q : Type 0} where
           let n = ap (λ (p : PassView T Q). p.number) e in omega (arith, n, same, place)
       by_case k d less long (no other) = is.placed k d (omega (arith, less, other)) long
 
-  pub order_swap : (pool : PoolId) (count i j : ℕ) (all now later : List (PassView T Q)) (x y : PassView T Q) → AreOrdering pool count all now i → i < length now → j < length now → i ≢ j → x ≡ get_or now i x → y ≡ get_or now j y
+  pub order_swap : (pool : PoolId) (count i j : ℕ) (all now later : List (PassView T Q)) (x y : PassView T Q) → AreOrdering pool count all now i
+      → i < length now → j < length now → i ≢ j → x ≡ get_or now i x → y ≡ get_or now j y
       → x.number + j + 1 ≡ count → y.number ≢ x.number → later ≡ swap now i j → AreOrdering pool count all later i
   order_swap pool count i j all now later x y is low high other x_is y_is place apart swapped =
       subst (λ (l : List (PassView T Q)). AreOrdering pool count all l i) (sym (swap_as now later i j x y low high (sym x_is) (sym y_is) swapped)) record {
@@ -109,7 +120,9 @@ module _ {T Q : Type 0} where
 
       -- the pass at j is not at its place, so j is ahead
       ahead : (k : ℕ) → k < i → k ≢ j
-      ahead k less same = apart (let p = is.placed j y (omega (arith, less, same)) high in let n = ap (λ (p : PassView T Q). p.number) y_is in omega (arith, p, n, place))
+      ahead k less same = apart (let p = is.placed j y (omega (arith, less, same)) high in let n = ap (λ (p : PassView T Q). p.number) y_is in
+          omega (arith, p, n, place))
 
-  pub order_ends : (pool : PoolId) (count at : ℕ) (all now : List (PassView T Q)) → AreOrdering pool count all now at → length now ≤ at → AreInOrder pool count now
+  pub order_ends : (pool : PoolId) (count at : ℕ) (all now : List (PassView T Q)) → AreOrdering pool count all now at → length now ≤ at
+      → AreInOrder pool count now
   order_ends pool count at all now is end = record { pools = is.pools; placed = λ k d below. is.placed k d (omega (arith, below, end)) below }

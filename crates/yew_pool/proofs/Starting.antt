@@ -24,7 +24,8 @@ module _ {T Q : Type 0} where
   pub opened_begins : (problem : Option Q) (whole : ℕ) → AreOpened {T = T} problem whole 0 [] []
   opened_begins problem whole = record { told = All-nil (λ (own : PlaceView T Q). own.hand ≡ started whole problem); long = refl; same = refl }
 
-  pub opened_more : (problem : Option Q) (whole count : ℕ) (ids : List DequeId) (owns : List (PlaceView T Q)) (own : PlaceView T Q) → AreOpened problem whole count ids owns → own.hand ≡ started whole problem
+  pub opened_more : (problem : Option Q) (whole count : ℕ) (ids : List DequeId) (owns : List (PlaceView T Q)) (own : PlaceView T Q)
+      → AreOpened problem whole count ids owns → own.hand ≡ started whole problem
       → AreOpened problem whole (count + 1) (ids ++ own.deque ∷ []) (owns ++ own ∷ [])
   opened_more problem whole count ids owns own is told = record {
     told = All-push (λ (o : PlaceView T Q). o.hand ≡ started whole problem) owns own is.told told;
@@ -33,13 +34,16 @@ module _ {T Q : Type 0} where
   }
 
   -- the same, as calls push a handle and an owner
-  pub opened_more_as : (problem : Option Q) (whole count : ℕ) (ids later_ids : List DequeId) (owns later : List (PlaceView T Q)) (id : DequeId) (own : PlaceView T Q) → AreOpened problem whole count ids owns → own.hand ≡ started whole problem
+  pub opened_more_as : (problem : Option Q) (whole count : ℕ) (ids later_ids : List DequeId) (owns later : List (PlaceView T Q)) (id : DequeId)
+      (own : PlaceView T Q) → AreOpened problem whole count ids owns → own.hand ≡ started whole problem
       → id ≡ own.deque → later_ids ≡ ids ++ id ∷ [] → later ≡ owns ++ own ∷ [] → AreOpened problem whole (count + 1) later_ids later
   opened_more_as problem whole count ids later_ids owns later id own is told same ids_are owns_are =
-      subst (λ (t : List DequeId × List (PlaceView T Q)). AreOpened problem whole (count + 1) t.0 t.1) (λ i. (sym (ids_are ∙ ap (λ (d : DequeId). ids ++ d ∷ []) same) i, sym owns_are i))
+      subst (λ (t : List DequeId × List (PlaceView T Q)). AreOpened problem whole (count + 1) t.0 t.1)
+      (λ i. (sym (ids_are ∙ ap (λ (d : DequeId). ids ++ d ∷ []) same) i, sym owns_are i))
       (opened_more problem whole count ids owns own is told)
 
-  pub opened_ends : (problem : Option Q) (whole count : ℕ) (ids : List DequeId) (owns : List (PlaceView T Q)) → AreOpened problem whole count ids owns → AreOwners problem whole 0 0 (deques owns) owns
+  pub opened_ends : (problem : Option Q) (whole count : ℕ) (ids : List DequeId) (owns : List (PlaceView T Q)) → AreOpened problem whole count ids owns
+      → AreOwners problem whole 0 0 (deques owns) owns
   opened_ends problem whole count ids owns is = record {
     ids_are = refl;
     done = λ number other less. absurd (omega arith);
@@ -53,7 +57,8 @@ module _ {T Q : Type 0} where
         coming = λ low. (let s = ap (λ (v : Hand T Q). v.share) told in omega (arith, s));
       }
 
-  pub lays_begin : (problem : Option Q) (whole number count : ℕ) (ids : List DequeId) (owns : List (PlaceView T Q)) → AreOwners problem whole number 0 ids owns → length owns ≡ count → IsLaying problem whole number 0 count ids owns []
+  pub lays_begin : (problem : Option Q) (whole number count : ℕ) (ids : List DequeId) (owns : List (PlaceView T Q))
+      → AreOwners problem whole number 0 ids owns → length owns ≡ count → IsLaying problem whole number 0 count ids owns []
   lays_begin problem whole number count ids owns are many = record {
     owners = are;
     places = record { each = λ at other below. absurd (omega arith); past = λ less. absurd (omega arith); coming = λ low. refl };
@@ -61,17 +66,21 @@ module _ {T Q : Type 0} where
     many = many;
   }
 
-  owner_at : (problem : Option Q) (whole number at count : ℕ) (ids : List DequeId) (owns row : List (PlaceView T Q)) (own : PlaceView T Q) → IsLaying problem whole number at count ids owns row → at < count → own ≡ get_or owns at own
+  owner_at : (problem : Option Q) (whole number at count : ℕ) (ids : List DequeId) (owns row : List (PlaceView T Q)) (own : PlaceView T Q)
+      → IsLaying problem whole number at count ids owns row → at < count → own ≡ get_or owns at own
       → IsOwner problem whole number at own
   owner_at problem whole number at count ids owns row own is below here =
-      subst (λ (o : PlaceView T Q). IsOwner problem whole number at o) (sym here) (is.owners.ahead at own (omega arith) (let m = is.many in omega (arith, m, below)))
+      subst (λ (o : PlaceView T Q). IsOwner problem whole number at o) (sym here)
+      (is.owners.ahead at own (omega arith) (let m = is.many in omega (arith, m, below)))
 
   -- an owner gives a part of its share away, and keeps one
-  pub lays_at : (problem : Option Q) (whole number at count : ℕ) (ids : List DequeId) (owns row : List (PlaceView T Q)) (own : PlaceView T Q) → IsLaying problem whole number at count ids owns row → at < count → own ≡ get_or owns at own
+  pub lays_at : (problem : Option Q) (whole number at count : ℕ) (ids : List DequeId) (owns row : List (PlaceView T Q)) (own : PlaceView T Q)
+      → IsLaying problem whole number at count ids owns row → at < count → own ≡ get_or owns at own
       → whole ≡ whole_among count → number < count → at ≢ number → 1 < own.hand.share
   lays_at problem whole number at count ids owns row own is below here all within other =
       let o = owner_at problem whole number at count ids owns row own is below here in
-      ⊎_elim (λ (h : at < number). let p = o.past h in omega (arith, p, all, within)) (λ (h : number ≤ at). let p = o.coming h in omega (arith, p, all, within, below, other)) (cases_lt at number)
+      ⊎_elim (λ (h : at < number). let p = o.past h in omega (arith, p, all, within))
+      (λ (h : number ≤ at). let p = o.coming h in omega (arith, p, all, within, below, other)) (cases_lt at number)
 
   owner_next : (problem : Option Q) (whole number at : ℕ) (own new : PlaceView T Q) → IsOwner problem whole number at own → (at ≢ number → 1 < own.hand.share)
       → (at ≡ number → new ≡ own) → (at ≢ number → new ≡ record own { hand = left_of own.hand }) → IsOwner problem whole (number + 1) at new
@@ -89,20 +98,26 @@ module _ {T Q : Type 0} where
         coming = λ low. (let p = is.coming (omega arith) in let m = more other in omega (arith, p, m));
       }
 
-  new_place : (problem : Option Q) (whole number at : ℕ) (ids : List DequeId) (own place : PlaceView T Q) → IsOwner problem whole number at own → own.deque ≡ get_or ids at own.deque
-      → (at ≡ number → place ≡ record { deque = own.deque; hand = spent; found_empty = 0 }) → (at ≢ number → place ≡ record { deque = own.deque; hand = right_of own.hand; found_empty = 0 })
+  new_place : (problem : Option Q) (whole number at : ℕ) (ids : List DequeId) (own place : PlaceView T Q) → IsOwner problem whole number at own
+      → own.deque ≡ get_or ids at own.deque
+      → (at ≡ number → place ≡ record { deque = own.deque; hand = spent; found_empty = 0 })
+      → (at ≢ number → place ≡ record { deque = own.deque; hand = right_of own.hand; found_empty = 0 })
       → IsNewPlace problem whole number at ids place
   new_place problem whole number at ids own place is id idle other = by_case (ℕ_discrete at number)
     where
       by_case : Dec (at ≡ number) → IsNewPlace problem whole number at ids place
-      by_case (yes same) = subst (λ (p : PlaceView T Q). IsNewPlace problem whole number at ids p) (sym (idle same)) record { deque = id; idle = λ _. refl; other = λ ne. absurd (ne same); found = refl }
+      by_case (yes same) = subst (λ (p : PlaceView T Q). IsNewPlace problem whole number at ids p)
+          (sym (idle same)) record { deque = id; idle = λ _. refl; other = λ ne. absurd (ne same); found = refl }
       by_case (no ne) =
-          subst (λ (p : PlaceView T Q). IsNewPlace problem whole number at ids p) (sym (other ne)) record { deque = id; idle = λ e. absurd (ne e); other = λ _. ap (λ (v : Hand T Q). right_of v) is.hand; found = refl }
+          subst (λ (p : PlaceView T Q). IsNewPlace problem whole number at ids p)
+          (sym (other ne)) record { deque = id; idle = λ e. absurd (ne e); other = λ _. ap (λ (v : Hand T Q). right_of v) is.hand; found = refl }
 
-  row_more : (problem : Option Q) (whole number at : ℕ) (ids : List DequeId) (row : List (PlaceView T Q)) (place : PlaceView T Q) → IsRow problem whole number ids row → length row ≡ at → IsNewPlace problem whole number at ids place
+  row_more : (problem : Option Q) (whole number at : ℕ) (ids : List DequeId) (row : List (PlaceView T Q)) (place : PlaceView T Q)
+      → IsRow problem whole number ids row → length row ≡ at → IsNewPlace problem whole number at ids place
       → IsRow problem whole number ids (row ++ place ∷ [])
   row_more problem whole number at ids row place is long new = record {
-    each = λ k d below. ⊎_elim (λ (h : k < length row). at_front (λ (p : PlaceView T Q). IsNewPlace problem whole number k ids p) row place d k h (is.each k d h))
+    each = λ k d below. ⊎_elim (λ (h : k < length row). at_front (λ (p : PlaceView T Q). IsNewPlace problem whole number k ids p) row place d k h
+        (is.each k d h))
         (λ (h : length row ≤ k). last k d (omega (arith, below, h, length-append row (place ∷ [])))) (cases_lt k (length row));
     past = λ less. past_case less (ℕ_discrete at number);
     coming = λ low. (
@@ -113,37 +128,46 @@ module _ {T Q : Type 0} where
   }
     where
       last : (k : ℕ) (d : PlaceView T Q) → k ≡ length row → IsNewPlace problem whole number k ids (get_or (row ++ place ∷ []) k d)
-      last k d end = at_end (λ (p : PlaceView T Q). IsNewPlace problem whole number k ids p) row place d k end (subst (λ j. IsNewPlace problem whole number j ids place) (sym (end ∙ long)) new)
+      last k d end = at_end (λ (p : PlaceView T Q). IsNewPlace problem whole number k ids p) row place d k end
+          (subst (λ j. IsNewPlace problem whole number j ids place) (sym (end ∙ long)) new)
 
-      past_case : number < length (row ++ place ∷ []) → Dec (at ≡ number) → sum_by (λ (p : PlaceView T Q). p.hand.share) (row ++ place ∷ []) + 1 ≡ length (row ++ place ∷ [])
+      past_case : number < length (row ++ place ∷ []) → Dec (at ≡ number)
+          → sum_by (λ (p : PlaceView T Q). p.hand.share) (row ++ place ∷ []) + 1 ≡ length (row ++ place ∷ [])
       past_case less (yes same) =
           let l = length-append row (place ∷ []) in let o = ap (λ (v : Hand T Q). v.share) (new.idle same) in let c = is.coming (omega (arith, same, long)) in
           let s = sum_by_push (λ (p : PlaceView T Q). p.hand.share) row place in omega (arith, c, o, s, l)
       past_case less (no other) =
-          let l = length-append row (place ∷ []) in let o = ap (λ (v : Hand T Q). v.share) (new.other other) in let c = is.past (omega (arith, other, long, less, l)) in
+          let l = length-append row (place ∷ []) in let o = ap (λ (v : Hand T Q). v.share) (new.other other) in
+          let c = is.past (omega (arith, other, long, less, l)) in
           let s = sum_by_push (λ (p : PlaceView T Q). p.hand.share) row place in omega (arith, c, o, s, l)
 
-  pub id_at : (ids : List DequeId) (owns : List (PlaceView T Q)) (at : ℕ) (own : PlaceView T Q) (d : DequeId) → deques owns ≡ ids → at < length owns → get_or ids at d ≡ (get_or owns at own).deque
+  pub id_at : (ids : List DequeId) (owns : List (PlaceView T Q)) (at : ℕ) (own : PlaceView T Q) (d : DequeId) → deques owns ≡ ids → at < length owns
+      → get_or ids at d ≡ (get_or owns at own).deque
   id_at ids owns at own d are below = ap (λ (l : List DequeId). get_or l at d) (sym are) ∙ get_or-map (λ (p : PlaceView T Q). p.deque) owns at own d below
 
-  pub lays_more : (problem : Option Q) (whole number at count : ℕ) (ids : List DequeId) (owns row : List (PlaceView T Q)) (own new place : PlaceView T Q) → IsLaying problem whole number at count ids owns row → at < count
+  pub lays_more : (problem : Option Q) (whole number at count : ℕ) (ids : List DequeId) (owns row : List (PlaceView T Q)) (own new place : PlaceView T Q)
+      → IsLaying problem whole number at count ids owns row → at < count
       → own ≡ get_or owns at own → whole ≡ whole_among count → number < count
       → (at ≡ number → new ≡ own) × (at ≢ number → new ≡ record own { hand = left_of own.hand })
-      → (at ≡ number → place ≡ record { deque = own.deque; hand = spent; found_empty = 0 }) → (at ≢ number → place ≡ record { deque = own.deque; hand = right_of own.hand; found_empty = 0 })
+      → (at ≡ number → place ≡ record { deque = own.deque; hand = spent; found_empty = 0 })
+      → (at ≢ number → place ≡ record { deque = own.deque; hand = right_of own.hand; found_empty = 0 })
       → IsLaying problem whole number (at + 1) count ids (set owns at new) (row ++ place ∷ [])
   lays_more problem whole number at count ids owns row own new place is below here all within moved idle other =
       let below' : at < length owns = (let m = is.many in omega (arith, m, below)) in
       let is_owner = owner_at problem whole number at count ids owns row own is below here in
-      let next = owner_next problem whole number at own new is_owner (lays_at problem whole number at count ids owns row own is below here all within) moved.0 moved.1 in
+      let next = owner_next problem whole number at own new is_owner
+      (lays_at problem whole number at count ids owns row own is below here all within) moved.0 moved.1 in
       let here' : get_or owns at new ≡ own = get_or_default owns at new own below' ∙ sym here in
       let deque : new.deque ≡ own.deque = same_deque (ℕ_discrete at number) in record {
         owners = record {
           ids_are = map-set_same (λ (p : PlaceView T Q). p.deque) owns at new new (deque ∙ sym (ap (λ (p : PlaceView T Q). p.deque) here')) ∙ is.owners.ids_are;
           done = λ j d less long. done_at j d next (omega (arith, long, length-set owns at new)) less (ℕ_discrete j at);
-          ahead = λ j d low long. subst (λ (o : PlaceView T Q). IsOwner problem whole number j o) (sym (get_or-set_other owns at j new d (apart j low))) (is.owners.ahead j d (omega arith) (omega (arith, long, length-set owns at new)));
+          ahead = λ j d low long. subst (λ (o : PlaceView T Q). IsOwner problem whole number j o) (sym (get_or-set_other owns at j new d (apart j low)))
+              (is.owners.ahead j d (omega arith) (omega (arith, long, length-set owns at new)));
         };
         places = row_more problem whole number at ids row place is.places is.long
-            (new_place problem whole number at ids own place is_owner (sym (id_at ids owns at own own.deque is.owners.ids_are below' ∙ ap (λ (p : PlaceView T Q). p.deque) (sym here))) idle other);
+            (new_place problem whole number at ids own place is_owner
+            (sym (id_at ids owns at own own.deque is.owners.ids_are below' ∙ ap (λ (p : PlaceView T Q). p.deque) (sym here))) idle other);
         long = (let l = is.long in omega (arith, l, length-append row (place ∷ [])));
         many = (let m = is.many in omega (arith, m, length-set owns at new));
       }
@@ -155,23 +179,29 @@ module _ {T Q : Type 0} where
       apart : (j : ℕ) → at + 1 ≤ j → j ≢ at
       apart j low = omega arith
 
-      done_at : (j : ℕ) (d : PlaceView T Q) → IsOwner problem whole (number + 1) at new → j < length owns → j < at + 1 → Dec (j ≡ at) → IsOwner problem whole (number + 1) j (get_or (set owns at new) j d)
+      done_at : (j : ℕ) (d : PlaceView T Q) → IsOwner problem whole (number + 1) at new → j < length owns → j < at + 1 → Dec (j ≡ at)
+          → IsOwner problem whole (number + 1) j (get_or (set owns at new) j d)
       done_at j d next long less (yes e) =
           subst (λ (t : ℕ × PlaceView T Q). IsOwner problem whole (number + 1) t.0 t.1)
           (λ i. (sym e i, sym (ap (λ k. get_or (set owns at new) k d) e ∙ get_or-set_same owns at new d (omega (arith, long, e))) i)) next
-      done_at j d next long less (no ne) = subst (λ (o : PlaceView T Q). IsOwner problem whole (number + 1) j o) (sym (get_or-set_other owns at j new d ne)) (is.owners.done j d (omega (arith, less, ne)) long)
+      done_at j d next long less (no ne) =
+          subst (λ (o : PlaceView T Q). IsOwner problem whole (number + 1) j o) (sym (get_or-set_other owns at j new d ne))
+          (is.owners.done j d (omega (arith, less, ne)) long)
 
   -- the same, as a call pushes the place
-  pub lays_more_as : (problem : Option Q) (whole number at count : ℕ) (ids : List DequeId) (owns row later : List (PlaceView T Q)) (own new place : PlaceView T Q) → IsLaying problem whole number at count ids owns row → at < count
+  pub lays_more_as : (problem : Option Q) (whole number at count : ℕ) (ids : List DequeId) (owns row later : List (PlaceView T Q))
+      (own new place : PlaceView T Q) → IsLaying problem whole number at count ids owns row → at < count
       → own ≡ get_or owns at own → whole ≡ whole_among count → number < count
       → (at ≡ number → new ≡ own) × (at ≢ number → new ≡ record own { hand = left_of own.hand })
-      → (at ≡ number → place ≡ record { deque = own.deque; hand = spent; found_empty = 0 }) → (at ≢ number → place ≡ record { deque = own.deque; hand = right_of own.hand; found_empty = 0 })
+      → (at ≡ number → place ≡ record { deque = own.deque; hand = spent; found_empty = 0 })
+      → (at ≢ number → place ≡ record { deque = own.deque; hand = right_of own.hand; found_empty = 0 })
       → later ≡ row ++ place ∷ [] → IsLaying problem whole number (at + 1) count ids (set owns at new) later
   lays_more_as problem whole number at count ids owns row later own new place is below here all within moved idle other pushed =
       subst (λ (l : List (PlaceView T Q)). IsLaying problem whole number (at + 1) count ids (set owns at new) l) (sym pushed)
       (lays_more problem whole number at count ids owns row own new place is below here all within moved idle other)
 
-  pub lays_end : (problem : Option Q) (whole number at count : ℕ) (ids : List DequeId) (owns row : List (PlaceView T Q)) → IsLaying problem whole number at count ids owns row → at ≡ count → AreOwners problem whole (number + 1) 0 ids owns
+  pub lays_end : (problem : Option Q) (whole number at count : ℕ) (ids : List DequeId) (owns row : List (PlaceView T Q))
+      → IsLaying problem whole number at count ids owns row → at ≡ count → AreOwners problem whole (number + 1) 0 ids owns
   lays_end problem whole number at count ids owns row is end = record {
     ids_are = is.owners.ids_are;
     done = λ j d less. absurd (omega arith);
@@ -179,10 +209,13 @@ module _ {T Q : Type 0} where
   }
 
   -- the same owners, with what they are told by other names
-  pub owners_as : (problem : Option Q) (whole whole' made : ℕ) (ids ids' : List DequeId) (owns : List (PlaceView T Q)) → whole ≡ whole' → ids ≡ ids' → AreOwners problem whole made 0 ids owns → AreOwners problem whole' made 0 ids' owns
-  owners_as problem whole whole' made ids ids' owns same same_ids are = subst (λ (t : ℕ × List DequeId). AreOwners problem t.0 made 0 t.1 owns) (λ i. (same i, same_ids i)) are
+  pub owners_as : (problem : Option Q) (whole whole' made : ℕ) (ids ids' : List DequeId) (owns : List (PlaceView T Q)) → whole ≡ whole' → ids ≡ ids'
+      → AreOwners problem whole made 0 ids owns → AreOwners problem whole' made 0 ids' owns
+  owners_as problem whole whole' made ids ids' owns same same_ids are =
+      subst (λ (t : ℕ × List DequeId). AreOwners problem t.0 made 0 t.1 owns) (λ i. (same i, same_ids i)) are
 
-  pub rows_begin : (problem : Option Q) (whole : ℕ) (owns : List (PlaceView T Q)) → AreOwners problem whole 0 0 (deques owns) owns → IsRowing problem whole 0 (deques owns) owns []
+  pub rows_begin : (problem : Option Q) (whole : ℕ) (owns : List (PlaceView T Q)) → AreOwners problem whole 0 0 (deques owns) owns
+      → IsRowing problem whole 0 (deques owns) owns []
   rows_begin problem whole owns are = record {
     owners = are;
     made = record { each = λ number row below. absurd (omega arith); long = λ number row below. absurd (omega arith) };
@@ -190,30 +223,41 @@ module _ {T Q : Type 0} where
     many = sym (length-map owns (λ (p : PlaceView T Q). p.deque));
   }
 
-  pub rows_more : (problem : Option Q) (whole number : ℕ) (ids : List DequeId) (owns later row : List (PlaceView T Q)) (rows : List (List (PlaceView T Q))) → IsRowing problem whole number ids owns rows
-      → AreOwners problem (whole_among (length owns)) (number + 1) 0 (deques owns) later → IsRow problem (whole_among (length owns)) number (deques owns) row → length row ≡ length owns → whole ≡ whole_among (length ids)
+  pub rows_more : (problem : Option Q) (whole number : ℕ) (ids : List DequeId) (owns later row : List (PlaceView T Q)) (rows : List (List (PlaceView T Q)))
+      → IsRowing problem whole number ids owns rows
+      → AreOwners problem (whole_among (length owns)) (number + 1) 0 (deques owns) later
+      → IsRow problem (whole_among (length owns)) number (deques owns) row → length row ≡ length owns → whole ≡ whole_among (length ids)
       → IsRowing problem whole (number + 1) ids later (rows ++ row ∷ [])
   rows_more problem whole number ids owns later row rows is owners' places' long' all =
       let whole_is : whole_among (length owns) ≡ whole = ap whole_among is.many ∙ sym all in
       let owners = owners_as problem _ whole (number + 1) (deques owns) ids later whole_is is.owners.ids_are owners' in
-      let places : IsRow problem whole number ids row = subst (λ (t : ℕ × List DequeId). IsRow problem t.0 number t.1 row) (λ i. (whole_is i, is.owners.ids_are i)) places' in record {
+      let places : IsRow problem whole number ids row =
+      subst (λ (t : ℕ × List DequeId). IsRow problem t.0 number t.1 row) (λ i. (whole_is i, is.owners.ids_are i)) places' in record {
         owners = owners;
         made = record {
-          each = λ k d below. ⊎_elim (λ (h : k < length rows). at_front (λ (r : List (PlaceView T Q)). IsRow problem whole k ids r) rows row d k h (is.made.each k d h))
+          each = λ k d below. ⊎_elim (λ (h : k < length rows). at_front (λ (r : List (PlaceView T Q)). IsRow problem whole k ids r) rows row d k h
+              (is.made.each k d h))
               (λ (h : length rows ≤ k). last k d (omega (arith, below, h, length-append rows (row ∷ []))) places) (cases_lt k (length rows));
-          long = λ k d below. ⊎_elim (λ (h : k < length rows). at_front (λ (r : List (PlaceView T Q)). length r ≡ length ids) rows row d k h (is.made.long k d h))
-              (λ (h : length rows ≤ k). at_end (λ (r : List (PlaceView T Q)). length r ≡ length ids) rows row d k (omega (arith, below, h, length-append rows (row ∷ []))) (long' ∙ is.many)) (cases_lt k (length rows));
+          long = λ k d below. ⊎_elim (λ (h : k < length rows). at_front (λ (r : List (PlaceView T Q)). length r ≡ length ids) rows row d k h
+              (is.made.long k d h))
+              (λ (h : length rows ≤ k). at_end (λ (r : List (PlaceView T Q)). length r ≡ length ids) rows row d k
+              (omega (arith, below, h, length-append rows (row ∷ []))) (long' ∙ is.many)) (cases_lt k (length rows));
         };
         long = (let l = is.long in omega (arith, l, length-append rows (row ∷ [])));
         many = sym (length-map later (λ (p : PlaceView T Q). p.deque)) ∙ ap (λ (l : List DequeId). length l) owners.ids_are;
       }
     where
-      last : (k : ℕ) (d : List (PlaceView T Q)) → k ≡ length rows → IsRow problem whole number ids row → IsRow problem whole k ids (get_or (rows ++ row ∷ []) k d)
-      last k d end places = at_end (λ (r : List (PlaceView T Q)). IsRow problem whole k ids r) rows row d k end (subst (λ j. IsRow problem whole j ids row) (sym (end ∙ is.long)) places)
+      last : (k : ℕ) (d : List (PlaceView T Q)) → k ≡ length rows → IsRow problem whole number ids row
+          → IsRow problem whole k ids (get_or (rows ++ row ∷ []) k d)
+      last k d end places = at_end (λ (r : List (PlaceView T Q)). IsRow problem whole k ids r) rows row d k end
+          (subst (λ j. IsRow problem whole j ids row) (sym (end ∙ is.long)) places)
 
   -- the same, as a call pushes the row
-  pub rows_more_as : (problem : Option Q) (whole number : ℕ) (ids : List DequeId) (owns later row : List (PlaceView T Q)) (rows more : List (List (PlaceView T Q))) → IsRowing problem whole number ids owns rows
-      → AreOwners problem (whole_among (length owns)) (number + 1) 0 (deques owns) later → IsRow problem (whole_among (length owns)) number (deques owns) row → length row ≡ length owns → whole ≡ whole_among (length ids)
+  pub rows_more_as : (problem : Option Q) (whole number : ℕ) (ids : List DequeId) (owns later row : List (PlaceView T Q))
+      (rows more : List (List (PlaceView T Q))) → IsRowing problem whole number ids owns rows
+      → AreOwners problem (whole_among (length owns)) (number + 1) 0 (deques owns) later
+      → IsRow problem (whole_among (length owns)) number (deques owns) row → length row ≡ length owns → whole ≡ whole_among (length ids)
       → more ≡ rows ++ row ∷ [] → IsRowing problem whole (number + 1) ids later more
   rows_more_as problem whole number ids owns later row rows more is owners places long all pushed =
-      subst (λ (l : List (List (PlaceView T Q))). IsRowing problem whole (number + 1) ids later l) (sym pushed) (rows_more problem whole number ids owns later row rows is owners places long all)
+      subst (λ (l : List (List (PlaceView T Q))). IsRowing problem whole (number + 1) ids later l) (sym pushed)
+      (rows_more problem whole number ids owns later row rows is owners places long all)

@@ -25,8 +25,10 @@ module _ {T Q : Type 0} where
   -- all owners, once the first passes have their places, and one more pass has its first ones
   pub record AreOwners (problem : Option Q) (whole made first : ℕ) (ids : List DequeId) (owns : List (PlaceView T Q)) : Type 0 where
     pub ids_are : deques owns ≡ ids
-    pub done : (number : ℕ) (other : PlaceView T Q) → number < first → number < length owns → IsOwner problem whole (made + 1) number (slice_index_or owns number other)
-    pub ahead : (number : ℕ) (other : PlaceView T Q) → first ≤ number → number < length owns → IsOwner problem whole made number (slice_index_or owns number other)
+    pub done : (number : ℕ) (other : PlaceView T Q) → number < first → number < length owns
+        → IsOwner problem whole (made + 1) number (slice_index_or owns number other)
+    pub ahead : (number : ℕ) (other : PlaceView T Q) → first ≤ number → number < length owns
+        → IsOwner problem whole made number (slice_index_or owns number other)
 
   -- a new place of the pass with this number
   pub record IsNewPlace (problem : Option Q) (whole number at : ℕ) (ids : List DequeId) (place : PlaceView T Q) : Type 0 where
@@ -54,7 +56,8 @@ module _ {T Q : Type 0} where
     pub long : (number : ℕ) (row : List (PlaceView T Q)) → number < length rows → length (slice_index_or rows number row) ≡ length ids
 
   -- the rows of the first passes are made
-  pub record IsRowing (problem : Option Q) (whole number : ℕ) (ids : List DequeId) (owns : List (PlaceView T Q)) (rows : List (List (PlaceView T Q))) : Type 0 where
+  pub record IsRowing (problem : Option Q) (whole number : ℕ) (ids : List DequeId) (owns : List (PlaceView T Q))
+      (rows : List (List (PlaceView T Q))) : Type 0 where
     pub owners : AreOwners problem whole number 0 ids owns
     pub made : AreRows problem whole ids rows
     pub long : length rows ≡ number
@@ -69,7 +72,8 @@ module _ {T Q : Type 0} where
   -- as many owners and rows, each of which are a new pass
   pub record AreReady (problem : Option Q) (ids : List DequeId) (owns : List (PlaceView T Q)) (rows : List (List (PlaceView T Q))) : Type 0 where
     pub long : length rows ≡ length owns
-    pub each : (number : ℕ) (own : PlaceView T Q) (row : List (PlaceView T Q)) → number < length owns → IsReady problem number ids (slice_index_or owns number own) (slice_index_or rows number row)
+    pub each : (number : ℕ) (own : PlaceView T Q) (row : List (PlaceView T Q)) → number < length owns
+        → IsReady problem number ids (slice_index_or owns number own) (slice_index_or rows number row)
 
   -- the last passes, each at its place
   pub record AreMade (problem : Option Q) (ids : List DequeId) (first : ℕ) (passes : List (PassView T Q)) : Type 0 where
@@ -77,6 +81,7 @@ module _ {T Q : Type 0} where
     pub each : (at : ℕ) (other : PassView T Q) → at < length passes → slice_index_or passes at other ≡ new_pass (record { deques = ids }) problem (first + at)
 
   -- the last passes are made of owners and rows
-  pub record IsSeating (problem : Option Q) (ids : List DequeId) (owns : List (PlaceView T Q)) (rows : List (List (PlaceView T Q))) (passes : List (PassView T Q)) : Type 0 where
+  pub record IsSeating (problem : Option Q) (ids : List DequeId) (owns : List (PlaceView T Q)) (rows : List (List (PlaceView T Q)))
+      (passes : List (PassView T Q)) : Type 0 where
     pub ready : AreReady problem ids owns rows
     pub made : AreMade problem ids (length owns) passes

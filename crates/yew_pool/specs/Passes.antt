@@ -1,5 +1,6 @@
 -- What contracts see of the pool and of a pass.
-use Rattle.std.specs.Prelude.{◌≡◌, ◌≢◌, ◌⊎◌, ℕ, ◌+◌, ◌<◌, ◌≤◌, List, [], ◌∷◌, ◌++◌, length, map, replicate, Option, Some, All, sum_by, slice_index, slice_index_or}
+use Rattle.std.specs.Prelude.{◌≡◌, ◌≢◌, ◌⊎◌, ℕ, ◌+◌, ◌<◌, ◌≤◌, List, [], ◌∷◌, ◌++◌, length, map, replicate, Option, Some, All, sum_by, slice_index}
+use Rattle.std.specs.Prelude.{slice_index_or}
 use Rattle.std.specs.List.{flat_map}
 use Rattle.yew_laws.specs.Bag.{SameBag, PartOfBag}
 use Rattle.yew_pool.specs.Places.{DequeId, PlaceView, once_more}
@@ -82,7 +83,15 @@ pub record HasLookedRound {T Q : Type 0} (old new : PassView T Q) : Type 0 where
 
 -- a pass that has done nothing yet
 abbrev pub new_pass : {T Q : Type 0} → PoolId → Option Q → ℕ → PassView T Q
-new_pass pool problem number = record { pool = pool; number = number; share = 1; problem = problem; put = []; took = []; found_empty = replicate (length pool.deques) 0 }
+new_pass pool problem number = record {
+  pool = pool;
+  number = number;
+  share = 1;
+  problem = problem;
+  put = [];
+  took = [];
+  found_empty = replicate (length pool.deques) 0;
+}
 
 abbrev pub all_put : {T Q : Type 0} → List (PassView T Q) → List T
 all_put passes = flat_map (λ pass. pass.put) passes

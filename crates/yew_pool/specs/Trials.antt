@@ -1,5 +1,5 @@
 -- For tests: a tree of a root and its children, and passes of one pool.
-use Rattle.std.specs.Prelude.{◌≡◌, ℕ, ◌+◌, ◌<◌, ◌≤◌, ◌^◌, List, [], ◌∷◌, length, replicate, All, Option}
+use Rattle.std.specs.Prelude.{◌≡◌, ◌≢◌, ℕ, ◌+◌, ◌<◌, ◌≤◌, ◌^◌, List, [], ◌∷◌, length, replicate, All, Option, refl}
 use Rattle.std.specs.List.{AllByRecursion}
 use Rattle.std.proofs.Common.{zero, suc, arith}
 use Rattle.std.proofs.lemmas.List.{length-replicate}
@@ -47,6 +47,10 @@ flat-countable width (suc n) s = omega arith
 
 pub flat-root_rank : rank_of 0 ≤ 65535
 flat-root_rank = omega arith
+
+pub no_children : (width n : ℕ) → n ≢ 0 → [] ≡ children_of width n
+no_children width zero some = absurd (some refl)
+no_children width (suc n) some = refl
 
 -- a pass of this pool for this problem
 pub record IsPassFor {T Q : Type 0} (pool : PoolId) (problem : Option Q) (pass : PassView T Q) : Type 0 where

@@ -19,7 +19,12 @@ use yew_tasks::Carried;
 
 type Owner<P> = Worker<<P as Carried>::Task, Global, Hand<<P as Carried>::Task, P>, Conserves<P>>;
 
-pub type Thief<P> = Stealer<<P as Carried>::Task, Global, Hand<<P as Carried>::Task, P>, Conserves<P>>;
+pub type Thief<P> = Stealer<
+    <P as Carried>::Task,
+    Global,
+    Hand<<P as Carried>::Task, P>,
+    Conserves<P>,
+>;
 
 /// The deque of a pass, which the pass owns. Contracts see which deque it is and what its owner knows. How often the
 /// owner finds it empty is counted at the place that the pass has there.
@@ -206,7 +211,8 @@ impl<P: Carried> Place<P> {
     // One try to take the first task.
     fn try_steal(&mut self) -> Steal<P::Task>
         requires { 0 < self.old.hand.share }
-        ensures { MatchSteal result (self.new ≡ self.old) (self.new ≡ self.old) (λ task. (self.new ≡ record self.old { hand = has_taken self.old.hand task }) × IsSoundFor P.carries self.old.hand.problem task) }
+        ensures { MatchSteal result (self.new ≡ self.old) (self.new ≡ self.old)
+            (λ task. (self.new ≡ record self.old { hand = has_taken self.old.hand task }) × IsSoundFor P.carries self.old.hand.problem task) }
     {
         self.stealer.steal_as::<Steals<P>>(&mut self.pass)
     }

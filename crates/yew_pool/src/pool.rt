@@ -1,5 +1,6 @@
 //! The pool and its passes.
-ghost use Rattle.std.specs.Prelude.{◌≡◌, ◌≢◌, ◌⊎◌, ◌+◌, ◌<◌, ◌≤◌, [], ◌∷◌, ◌++◌, length, map, sum_by, All, slice_index_or, vec_capacity, ℕ, IfErr, IfOk, IfSome, IfNone, OnErr, OnOk, Some};
+ghost use Rattle.std.specs.Prelude.{◌≡◌, ◌≢◌, ◌⊎◌, ◌+◌, ◌<◌, ◌≤◌, [], ◌∷◌, ◌++◌, length, map, sum_by, All, slice_index_or, vec_capacity, ℕ};
+ghost use Rattle.std.specs.Prelude.{IfErr, IfOk, IfSome, IfNone, OnErr, OnOk, Some};
 ghost use Rattle.yew_laws.specs.Bag.{SameBag, PartOfBag};
 ghost use Rattle.yew_pool.specs.Passes.{AreSeated, IsSeated, HasTaken, HasLooked, HasLookedRound, IsLeft, IsPartLeft, new_pass, pass_view};
 ghost use Rattle.yew_pool.specs.Places.{once_more};
@@ -223,7 +224,8 @@ impl<P: Carried> Pool<P> {
         requires { (0 < passes) × (passes ≤ 64) }
         ensures pool { IfOk result (λ r. length r.0.deques ≡ passes) }
         ensures count { IfOk result (λ r. length r.1.items ≡ passes) }
-        ensures passes { IfOk result (λ r. (number : ℕ) (other : _) → number < passes → slice_index_or r.1.items number other ≡ new_pass r.0 (Some problem.now) number) }
+        ensures passes { IfOk result (λ r. (number : ℕ) (other : _) → number < passes
+            → slice_index_or r.1.items number other ≡ new_pass r.0 (Some problem.now) number) }
     {
         let (mut owns, stealers) = make_deques(alloc, problem, passes as usize)?;
         let rows = make_rows(alloc, problem, &mut owns)?;

@@ -1,22 +1,22 @@
-ghost use Rattle.std.specs.Prelude.{◌≡◌, ◌<◌, ◌≤◌, All, length, replicate, IfOk, IfSome, OnOk, Some};
-ghost use Rattle.yew_pool.specs.Tasks.{is_task, IsSoundFor};
+ghost use Rattle.std.specs.Prelude.{◌≡◌, ◌<◌, ◌≤◌, ◌∷◌, [], length, replicate, IfOk, Some};
+ghost use Rattle.std.specs.Thread.{IsSync};
 ghost use Rattle.yew_pool.specs.Trials.{ArePassesFor, IsPassFor, IsOfFlat, children_of, rank_of, flat-bounded, flat-countable, flat-ranked, flat-root_rank};
 
 use crate::{Pool, PoolPass, Take};
 use std::alloc::Global;
-use std::sync::Wait;
-use std::sync::atomic::{AtomicU64, Ordering};
+use std::sync::{Mutex, Wait};
 use std::test::Fail;
-use std::thread::{Threads, join, yield_now};
-use yew_laws::{Memory, Path, Problem, Task, rebuild};
+use std::thread::{Threads, map_vec, yield_now};
+use yew_laws::{Memory, Path, Problem, Task};
 
 /// A root with so many children, which have none.
+#[derive(Clone, Copy)]
 struct Flat {
     width: u32,
 }
 
 /// How many children are left.
-#[derive(Drop)]
+#[derive(Clone, Copy)]
 struct Kids {
     left: u32,
 }
@@ -46,17 +46,16 @@ impl Problem for Flat {
 
     ghost bounded = { λ problem. flat-bounded problem.width };
 
-    ghost countable = { λ problem n s. flat-countable problem.width n s };
+    ghost countable = { λ problem. flat-countable problem.width };
 
     fn root(&self, _alloc: Global) -> Result<u32, Memory> {
         Ok(0)
     }
 
+    #[tactic(auto, using(crate::specs::Trials::no_children))]
     fn open(&self, _alloc: Global, node: u32) -> Result<Kids, Memory> {
-        if node == 0 {
-            return Ok(Kids { left: self.width });
-        }
-        Ok(Kids { left: 0 })
+        let left = if node == 0 { self.width } else { 0 };
+        Ok(Kids { left })
     }
 
     fn next(&self, _alloc: Global, kids: &mut Kids) -> Result<Option<u32>, Memory> {
@@ -76,80 +75,67 @@ impl Problem for Flat {
     }
 }
 
-/// The task of a child of the root, if there is one.
-fn child<P: Problem>(alloc: Global, problem: &P, number: u32) -> Result<Option<Task<P>>, Memory>
-    requires { P.sound problem.now (P.root problem.now) }
-    ensures { IfOk result (λ found. IfSome found (λ task. IsSoundFor (is_task P.Problem) (Some problem.now) task)) }
+/// The task of a child of the root.
+fn child(alloc: Global, number: u32) -> Result<Task<Flat>, Memory>
+    requires { number < 65536 }
+    ensures { IfOk result (λ task. (task.path.numbers ≡ number ∷ []) × (task.node ≡ 1)) }
 {
-    let path = Path::empty(alloc, 1)?.child(number)?;
-    match rebuild(alloc, problem, &path)? {
-        Some(node) => Ok(Some(Task { path, node })),
-        None => Ok(None),
-    }
+    Ok(Task {
+        path: Path::empty(alloc, 1)?.child(number)?,
+        node: 1,
+    })
 }
 
-/// A pool and its passes.
-fn made<P: Problem>(
-    alloc: Global,
-    problem: &P,
-    passes: u32,
-) -> Result<(Pool<P>, Vec<PoolPass<P>>), Memory>
-    requires { (0 < passes) × (passes ≤ 64) }
-    ensures count { IfOk result (λ r. length r.0.deques ≡ passes) }
-    ensures passes { IfOk result (λ r. ArePassesFor r.0 (Some problem.now) r.1.items) }
-{
-    Pool::new(alloc, problem, passes)
-}
-
-/// The last pass of a list.
-fn last<P: Problem>(
-    pool: &Pool<P>,
-    problem: &P,
-    passes: &mut Vec<PoolPass<P>>,
-) -> Result<PoolPass<P>, Memory>
-    requires { ArePassesFor pool.now (Some problem.now) passes.old.items }
-    ensures rest { ArePassesFor pool.now (Some problem.now) passes.new.items }
-    ensures last { IfOk result (IsPassFor pool.now (Some problem.now)) }
-{
-    let _ = (pool, problem);
-    passes.pop().ok_or(Memory)
-}
-
-/// Puts the task of a child.
-fn put<P: Problem>(
-    alloc: Global,
-    problem: &P,
-    pool: &Pool<P>,
-    pass: &mut PoolPass<P>,
-    number: u32,
-) -> Result<(), Memory>
-    requires root { P.sound problem.now (P.root problem.now) }
-    requires pass { IsPassFor pool.now (Some problem.now) pass.old }
-    ensures { IsPassFor pool.now (Some problem.now) pass.new }
-{
-    match child(alloc, problem, number)? {
-        Some(task) => match pool.put(pass, task) {
-            Ok(()) => Ok(()),
-            Err(_) => Err(Memory),
-        },
-        None => Err(Memory),
-    }
-}
-
-/// The number of a child.
-fn number_of<P: Problem>(task: &Task<P>) -> u32 {
+/// The number of the child whose task it is.
+fn number_of(task: &Task<Flat>) -> u32 {
     match task.path.numbers().first() {
         Some(number) => *number,
         None => u32::MAX,
     }
 }
 
-/// Takes a task, and answers the number of the child.
-fn take<P: Problem, R: Wait>(
+/// A pool and its passes.
+fn made(
+    alloc: Global,
+    problem: &Flat,
+    passes: u32,
+) -> Result<(Pool<Flat>, Vec<PoolPass<Flat>>), Memory>
+    requires { (0 < passes) × (passes ≤ 64) }
+    ensures count { IfOk result (λ r. (length r.0.deques ≡ passes) × (length r.1.items ≡ passes)) }
+    ensures passes { IfOk result (λ r. ArePassesFor r.0 (Some problem.now) r.1.items) }
+{
+    let (pool, passes) = Pool::new(alloc, problem, passes)?;
+    Ok((pool, passes))
+}
+
+/// Puts the task of a child of the root.
+fn put(
+    alloc: Global,
+    problem: &Flat,
+    pool: &Pool<Flat>,
+    pass: &mut PoolPass<Flat>,
+    number: u32,
+) -> Result<(), Memory>
+    requires width { problem.now.width < 65536 }
+    requires pass { IsPassFor pool.now (Some problem.now) pass.old }
+    ensures { IsPassFor pool.now (Some problem.now) pass.new }
+{
+    if number >= problem.width {
+        return Err(Memory);
+    }
+    let task = child(alloc, number)?;
+    match pool.put(pass, task) {
+        Ok(()) => Ok(()),
+        Err(_) => Err(Memory),
+    }
+}
+
+/// Takes a task, and answers the number of its child.
+fn take<R: Wait>(
     rt: &R,
-    problem: &P,
-    pool: &Pool<P>,
-    pass: &mut PoolPass<P>,
+    problem: &Flat,
+    pool: &Pool<Flat>,
+    pass: &mut PoolPass<Flat>,
 ) -> Option<u32>
     requires { IsPassFor pool.now (Some problem.now) pass.old }
     ensures { IsPassFor pool.now (Some problem.now) pass.new }
@@ -161,21 +147,17 @@ fn take<P: Problem, R: Wait>(
     }
 }
 
-/// Closes the pool, and answers the numbers of the children that were left.
-fn close<P: Problem>(
+/// Closes the pool, and answers the numbers of the children whose tasks were left.
+fn close(
     alloc: Global,
-    problem: &P,
-    pool: Pool<P>,
-    passes: Vec<PoolPass<P>>,
-    count: usize,
+    problem: &Flat,
+    pool: Pool<Flat>,
+    passes: Vec<PoolPass<Flat>>,
 ) -> Result<Vec<u32>, Memory>
     requires passes { ArePassesFor pool (Some problem.now) passes.items }
-    requires count { length pool.deques ≡ count }
+    requires count { length passes.items ≡ length pool.deques }
 {
     let _ = problem;
-    if passes.len() != count {
-        return Err(Memory);
-    }
     let mut left = Vec::new(alloc);
     pool.close(passes, &mut left)?;
     let mut numbers = Vec::new(alloc);
@@ -185,347 +167,214 @@ fn close<P: Problem>(
     Ok(numbers)
 }
 
-/// Two passes: one puts 0 and 1, the other takes 0, the first takes 1, the other finds nothing and puts 2, which is left.
-/// The passes are handed back in both orders.
-fn two_passes<P: Problem, R: Wait>(
-    rt: &R,
+/// A pool for two passes, and the passes.
+fn pair(
     alloc: Global,
-    problem: &P,
-    turned: bool,
-) -> Result<(Vec<Option<u32>>, Vec<u32>), Memory>
-    requires { P.sound problem.now (P.root problem.now) }
+    problem: &Flat,
+) -> Result<(Pool<Flat>, PoolPass<Flat>, PoolPass<Flat>), Memory>
+    ensures count { IfOk result (λ r. length r.0.deques ≡ 2) }
+    ensures first { IfOk result (λ r. IsPassFor r.0 (Some problem.now) r.1) }
+    ensures second { IfOk result (λ r. IsPassFor r.0 (Some problem.now) r.2) }
 {
     let (pool, mut passes) = made(alloc, problem, 2)?;
-    let mut second = last(&pool, problem, &mut passes)?;
-    let mut first = last(&pool, problem, &mut passes)?;
-    let mut taken = Vec::new(alloc);
+    let first = passes.remove(0);
+    let second = passes.remove(0);
+    Ok((pool, first, second))
+}
+
+/// Two passes as a list.
+fn listed(
+    alloc: Global,
+    problem: &Flat,
+    pool: &Pool<Flat>,
+    first: PoolPass<Flat>,
+    second: PoolPass<Flat>,
+) -> Result<Vec<PoolPass<Flat>>, Memory>
+    requires first { IsPassFor pool.now (Some problem.now) first }
+    requires second { IsPassFor pool.now (Some problem.now) second }
+    ensures passes { IfOk result (λ passes. ArePassesFor pool.now (Some problem.now) passes.items) }
+    ensures count { IfOk result (λ passes. length passes.items ≡ 2) }
+{
+    let _ = problem;
+    let _ = pool;
+    let mut passes = Vec::with_capacity(alloc, 2)?;
+    passes.push(first)?;
+    passes.push(second)?;
+    Ok(passes)
+}
+
+/// One pass puts 0, which the other takes, and finds nothing then. The first puts 1, which is left. The passes are handed
+/// back in both orders.
+fn two_passes<R: Wait>(
+    rt: &R,
+    alloc: Global,
+    problem: &Flat,
+    turned: bool,
+) -> Result<(Option<u32>, Option<u32>, Vec<u32>), Memory>
+    requires { problem.now.width < 65536 }
+{
+    let (pool, mut first, mut second) = pair(alloc, problem)?;
     put(alloc, problem, &pool, &mut first, 0)?;
+    let taken = take(rt, problem, &pool, &mut second);
+    let nothing = take(rt, problem, &pool, &mut second);
     put(alloc, problem, &pool, &mut first, 1)?;
-    taken.push(take(rt, problem, &pool, &mut second))?;
-    taken.push(take(rt, problem, &pool, &mut first))?;
-    taken.push(take(rt, problem, &pool, &mut second))?;
-    put(alloc, problem, &pool, &mut second, 2)?;
-    let mut passes = Vec::new(alloc);
-    if turned {
-        passes.push(second)?;
-        passes.push(first)?;
+    let passes = if turned {
+        listed(alloc, problem, &pool, second, first)?
     } else {
-        passes.push(first)?;
-        passes.push(second)?;
-    }
-    let left = close(alloc, problem, pool, passes, 2)?;
-    Ok((taken, left))
-}
-
-#[test]
-fn two_passes_take_in_turn(rt: HostRuntime) -> Result<(), Fail> {
-    for turned in [false, true] {
-        let (taken, left) = two_passes(&rt, rt.alloc(), &Flat { width: 3 }, turned)?;
-        assert_eq!(rt; taken.as_slice(), [Some(0), Some(1), None].as_slice());
-        assert_eq!(rt; left.as_slice(), [2].as_slice());
-    }
-    Ok(())
-}
-
-/// Puts the tasks of so many children, and counts what was refused.
-fn fill<P: Problem>(
-    alloc: Global,
-    problem: &P,
-    pool: &Pool<P>,
-    mut pass: PoolPass<P>,
-    first: u32,
-    refusals: &AtomicU64,
-) -> PoolPass<P>
-    requires root { P.sound problem.now (P.root problem.now) }
-    requires pass { IsPassFor pool.now (Some problem.now) pass }
-    ensures { IsPassFor pool.now (Some problem.now) result }
-{
-    for step in 0..1000u32 {
-        if put(alloc, problem, pool, &mut pass, first.wrapping_add(step)).is_err() {
-            refusals.fetch_add(1, Ordering::SeqCst);
-        }
-    }
-    pass
-}
-
-/// Takes at most so many tasks, in at most ten times as many tries, and counts how often each child was taken.
-fn drain<P: Problem, R: Wait>(
-    rt: &R,
-    problem: &P,
-    pool: &Pool<P>,
-    mut pass: PoolPass<P>,
-    most: u32,
-    counts: &[AtomicU64],
-) -> PoolPass<P>
-    requires { IsPassFor pool.now (Some problem.now) pass }
-    ensures { IsPassFor pool.now (Some problem.now) result }
-{
-    let mut taken = 0u32;
-    for _ in 0..most.saturating_mul(10) {
-        if taken == most {
-            break;
-        }
-        match take(rt, problem, pool, &mut pass) {
-            Some(number) => {
-                taken = taken.saturating_add(1);
-                count(counts, number);
-            }
-            None => yield_now(),
-        }
-    }
-    pass
-}
-
-/// Counts a child.
-fn count(counts: &[AtomicU64], number: u32) {
-    if let Some(count) = counts.get(number as usize) {
-        count.fetch_add(1, Ordering::SeqCst);
-    }
-}
-
-/// Puts the tasks of 250 children, and takes a task after each.
-fn mix<P: Problem, R: Wait>(
-    rt: &R,
-    alloc: Global,
-    problem: &P,
-    pool: &Pool<P>,
-    mut pass: PoolPass<P>,
-    first: u32,
-    refusals: &AtomicU64,
-    counts: &[AtomicU64],
-) -> PoolPass<P>
-    requires root { P.sound problem.now (P.root problem.now) }
-    requires pass { IsPassFor pool.now (Some problem.now) pass }
-    ensures { IsPassFor pool.now (Some problem.now) result }
-{
-    for step in 0..250u32 {
-        if put(alloc, problem, pool, &mut pass, first.wrapping_add(step)).is_err() {
-            refusals.fetch_add(1, Ordering::SeqCst);
-        }
-        if let Some(number) = take(rt, problem, pool, &mut pass) {
-            count(counts, number);
-        }
-    }
-    pass
-}
-
-/// One thread puts, and another takes.
-fn fill_and_drain<P: Problem, R: Threads + Wait + Sync>(
-    rt: &R,
-    alloc: Global,
-    problem: &P,
-    pool: &Pool<P>,
-    passes: (PoolPass<P>, PoolPass<P>),
-    first: u32,
-    refusals: &AtomicU64,
-    counts: &[AtomicU64],
-) -> (PoolPass<P>, PoolPass<P>)
-    requires root { P.sound problem.now (P.root problem.now) }
-    requires one { IsPassFor pool.now (Some problem.now) passes.0 }
-    requires two { IsPassFor pool.now (Some problem.now) passes.1 }
-    ensures { IsPassFor pool.now (Some problem.now) result.0 × IsPassFor pool.now (Some problem.now) result.1 }
-{
-    let (one, two) = passes;
-    join(
-        rt,
-        move || fill(alloc, problem, pool, one, first, refusals),
-        move || drain(rt, problem, pool, two, 900, counts),
-    )
-}
-
-/// Two threads put 1,000 tasks each, and two others take at most 900 each. Answers the passes.
-fn four_threads<P: Problem, R: Threads + Wait + Sync>(
-    rt: &R,
-    alloc: Global,
-    problem: &P,
-    pool: &Pool<P>,
-    mut passes: Vec<PoolPass<P>>,
-    refusals: &AtomicU64,
-    counts: &[AtomicU64],
-) -> Result<Vec<PoolPass<P>>, Memory>
-    requires root { P.sound problem.now (P.root problem.now) }
-    requires passes { ArePassesFor pool.now (Some problem.now) passes.items }
-    ensures { IfOk result (λ passes. ArePassesFor pool.now (Some problem.now) passes.items) }
-{
-    let one = last(pool, problem, &mut passes)?;
-    let two = last(pool, problem, &mut passes)?;
-    let three = last(pool, problem, &mut passes)?;
-    let four = last(pool, problem, &mut passes)?;
-    let ((one, two), (three, four)) = join(
-        rt,
-        move || fill_and_drain(rt, alloc, problem, pool, (one, two), 0, refusals, counts),
-        move || fill_and_drain(
-            rt,
-            alloc,
-            problem,
-            pool,
-            (three, four),
-            1000,
-            refusals,
-            counts,
-        ),
-    );
-    passes.push(one)?;
-    passes.push(two)?;
-    passes.push(three)?;
-    passes.push(four)?;
-    Ok(passes)
-}
-
-/// Two threads put and take.
-fn mix_two<P: Problem, R: Threads + Wait + Sync>(
-    rt: &R,
-    alloc: Global,
-    problem: &P,
-    pool: &Pool<P>,
-    passes: (PoolPass<P>, PoolPass<P>),
-    first: u32,
-    refusals: &AtomicU64,
-    counts: &[AtomicU64],
-) -> (PoolPass<P>, PoolPass<P>)
-    requires root { P.sound problem.now (P.root problem.now) }
-    requires one { IsPassFor pool.now (Some problem.now) passes.0 }
-    requires two { IsPassFor pool.now (Some problem.now) passes.1 }
-    ensures { IsPassFor pool.now (Some problem.now) result.0 × IsPassFor pool.now (Some problem.now) result.1 }
-{
-    let (one, two) = passes;
-    let second = first.wrapping_add(250);
-    join(
-        rt,
-        move || mix(rt, alloc, problem, pool, one, first, refusals, counts),
-        move || mix(rt, alloc, problem, pool, two, second, refusals, counts),
-    )
-}
-
-/// Four threads put and take. Answers the passes.
-fn mix_four<P: Problem, R: Threads + Wait + Sync>(
-    rt: &R,
-    alloc: Global,
-    problem: &P,
-    pool: &Pool<P>,
-    mut passes: Vec<PoolPass<P>>,
-    first: u32,
-    refusals: &AtomicU64,
-    counts: &[AtomicU64],
-) -> Result<Vec<PoolPass<P>>, Memory>
-    requires root { P.sound problem.now (P.root problem.now) }
-    requires passes { ArePassesFor pool.now (Some problem.now) passes.items }
-    ensures { IfOk result (λ passes. ArePassesFor pool.now (Some problem.now) passes.items) }
-{
-    let one = last(pool, problem, &mut passes)?;
-    let two = last(pool, problem, &mut passes)?;
-    let three = last(pool, problem, &mut passes)?;
-    let four = last(pool, problem, &mut passes)?;
-    let second = first.wrapping_add(500);
-    let ((one, two), (three, four)) = join(
-        rt,
-        move || mix_two(
-            rt,
-            alloc,
-            problem,
-            pool,
-            (one, two),
-            first,
-            refusals,
-            counts,
-        ),
-        move || mix_two(
-            rt,
-            alloc,
-            problem,
-            pool,
-            (three, four),
-            second,
-            refusals,
-            counts,
-        ),
-    );
-    passes.push(one)?;
-    passes.push(two)?;
-    passes.push(three)?;
-    passes.push(four)?;
-    Ok(passes)
-}
-
-/// Eight threads put and take. Answers the passes.
-fn eight_threads<P: Problem, R: Threads + Wait + Sync>(
-    rt: &R,
-    alloc: Global,
-    problem: &P,
-    pool: &Pool<P>,
-    mut passes: Vec<PoolPass<P>>,
-    refusals: &AtomicU64,
-    counts: &[AtomicU64],
-) -> Result<Vec<PoolPass<P>>, Memory>
-    requires root { P.sound problem.now (P.root problem.now) }
-    requires passes { ArePassesFor pool.now (Some problem.now) passes.items }
-    ensures { IfOk result (λ passes. ArePassesFor pool.now (Some problem.now) passes.items) }
-{
-    let mut front = Vec::new(alloc);
-    for _ in 0..4u8 {
-        front.push(last(pool, problem, &mut passes)?)?;
-    }
-    let (front, back) = join(
-        rt,
-        move || mix_four(rt, alloc, problem, pool, front, 0, refusals, counts),
-        move || mix_four(rt, alloc, problem, pool, passes, 1000, refusals, counts),
-    );
-    let (mut front, mut back) = (front?, back?);
-    for _ in 0..4u8 {
-        front.push(last(pool, problem, &mut back)?)?;
-    }
-    Ok(front)
-}
-
-/// Runs threads over the tasks of 2,000 children, and answers how many refusals there were, and whether each task was
-/// taken or left once.
-fn each_once<P: Problem, R: Threads + Wait + Sync>(
-    rt: &R,
-    alloc: Global,
-    problem: &P,
-    eight: bool,
-) -> Result<(u64, bool), Memory>
-    requires { P.sound problem.now (P.root problem.now) }
-{
-    let refusals = AtomicU64::new(0);
-    let mut counts = Vec::new(alloc);
-    for _ in 0..2000u32 {
-        counts.push(AtomicU64::new(0))?;
-    }
-    let left = if eight {
-        let (pool, passes) = made(alloc, problem, 8)?;
-        let passes = eight_threads(rt, alloc, problem, &pool, passes, &refusals, &counts)?;
-        close(alloc, problem, pool, passes, 8)?
-    } else {
-        let (pool, passes) = made(alloc, problem, 4)?;
-        let passes = four_threads(rt, alloc, problem, &pool, passes, &refusals, &counts)?;
-        close(alloc, problem, pool, passes, 4)?
+        listed(alloc, problem, &pool, first, second)?
     };
-    for number in left.iter() {
-        count(&counts, *number);
-    }
-    let once = counts.iter().all(|count| count.load(Ordering::SeqCst) == 1);
-    Ok((refusals.load(Ordering::SeqCst), once))
+    Ok((taken, nothing, close(alloc, problem, pool, passes)?))
 }
 
 #[test]
-fn no_task_is_lost_between_four_threads(rt: HostRuntime) -> Result<(), Fail> {
-    for _ in 0..30u8 {
-        assert_eq!(rt;
-            each_once(&rt, rt.alloc(), &Flat { width: 2000 }, false)?,
-            (0, true)
-        );
+fn what_is_put_is_taken_or_left(rt: HostRuntime) -> Result<(), Fail> {
+    for turned in [false, true] {
+        let (taken, nothing, left) = two_passes(&rt, rt.alloc(), &Flat { width: 2 }, turned)?;
+        assert_eq!(rt; (taken, nothing), (Some(0), None));
+        assert_eq!(rt; left.as_slice(), [1].as_slice());
     }
     Ok(())
 }
 
+/// What a thread does in one turn after another: it puts the next of its children, up to the last, and takes a task, up
+/// to so many.
+#[derive(Clone, Copy)]
+struct Plan {
+    turns: u32,
+    next: u32,
+    end: u32,
+    most: usize,
+}
+
+/// The plan of the thread that has the pass with this number, of four or eight.
+fn plan_of(number: usize, eight: bool) -> Plan {
+    let number = (number % 8) as u32;
+    if eight {
+        return Plan {
+            turns: 250,
+            next: number * 250,
+            end: number * 250 + 250,
+            most: 250,
+        };
+    }
+    if number < 2 {
+        return Plan {
+            turns: 1000,
+            next: number * 1000,
+            end: number * 1000 + 1000,
+            most: 0,
+        };
+    }
+    Plan {
+        turns: 9000,
+        next: 0,
+        end: 0,
+        most: 900,
+    }
+}
+
+/// Takes the turns of a plan, and answers the numbers that were taken.
+fn follow<R: Wait>(
+    rt: &R,
+    alloc: Global,
+    problem: &Flat,
+    pool: &Pool<Flat>,
+    pass: &mut PoolPass<Flat>,
+    plan: Plan,
+) -> Result<Vec<u32>, Memory>
+    requires width { problem.now.width < 65536 }
+    requires pass { IsPassFor pool.now (Some problem.now) pass.old }
+    ensures { IsPassFor pool.now (Some problem.now) pass.new }
+{
+    let mut taken = Vec::new(alloc);
+    for turn in 0..plan.turns {
+        let next = plan.next.saturating_add(turn);
+        if next < plan.end {
+            put(alloc, problem, pool, pass, next)?;
+        }
+        if taken.len() < plan.most {
+            match take(rt, problem, pool, pass) {
+                Some(number) => taken.push(number)?,
+                None => yield_now(),
+            }
+        }
+    }
+    Ok(taken)
+}
+
+/// A thread's work, which adds what it took to what all took.
+fn work<R: Wait>(
+    rt: &R,
+    alloc: Global,
+    problem: &Flat,
+    pool: &Pool<Flat>,
+    mut pass: PoolPass<Flat>,
+    eight: bool,
+    taken: &Mutex<Vec<u32>>,
+) -> PoolPass<Flat>
+    requires width { problem.now.width < 65536 }
+    requires pass { IsPassFor pool.now (Some problem.now) pass }
+    ensures { IsPassFor pool.now (Some problem.now) result }
+{
+    let plan = plan_of(pass.number(), eight);
+    if let Ok(mut mine) = follow(rt, alloc, problem, pool, &mut pass, plan) {
+        let _ = taken.lock(rt).append(&mut mine);
+    }
+    pass
+}
+
+/// A thread for each pass.
+fn in_threads<R: Threads + Wait + Sync>(
+    rt: &R,
+    alloc: Global,
+    problem: &Flat,
+    pool: &Pool<Flat>,
+    passes: Vec<PoolPass<Flat>>,
+    eight: bool,
+    taken: &Mutex<Vec<u32>>,
+) -> Result<Vec<PoolPass<Flat>>, Memory>
+    requires width { problem.now.width < 65536 }
+    requires passes { ArePassesFor pool.now (Some problem.now) passes.items }
+    ensures { IfOk result (λ after. ArePassesFor pool.now (Some problem.now) after.items × (length after.items ≡ length passes.items)) }
+{
+    let run = |pass: PoolPass<Flat>| -> PoolPass<Flat>
+        requires { IsSync R.row × (problem.now.width < 65536) × IsPassFor pool.now (Some problem.now) pass }
+        ensures { IsPassFor pool.entry.now (Some problem.entry.now) result }
+    { work(rt, alloc, problem, pool, pass, eight, taken) };
+    let after = map_vec(rt, passes, &run)?;
+    Ok(after)
+}
+
+/// The numbers that four or eight threads took and those that were left, by rising number.
+fn taken_and_left<R: Threads + Wait + Sync>(
+    rt: &R,
+    alloc: Global,
+    eight: bool,
+) -> Result<Vec<u32>, Memory> {
+    let problem = Flat { width: 2000 };
+    let (pool, passes) = made(alloc, &problem, if eight { 8 } else { 4 })?;
+    let taken = Mutex::new(Vec::new(alloc));
+    let passes = in_threads(rt, alloc, &problem, &pool, passes, eight, &taken)?;
+    let mut left = close(alloc, &problem, pool, passes)?;
+    let mut numbers = taken.into_inner();
+    numbers.append(&mut left)?;
+    numbers.sort()?;
+    Ok(numbers)
+}
+
+// Two threads put 1,000 tasks each, and two take at most 900 each; or eight put 250 each, and take as many. Whatever the
+// schedule, each task is taken or left once.
 #[test]
-fn no_task_is_lost_between_eight_threads(rt: HostRuntime) -> Result<(), Fail> {
-    for _ in 0..30u8 {
-        assert_eq!(rt;
-            each_once(&rt, rt.alloc(), &Flat { width: 2000 }, true)?,
-            (0, true)
-        );
+fn no_task_is_lost_between_threads(rt: HostRuntime) -> Result<(), Fail> {
+    let mut all = Vec::new(rt.alloc());
+    for number in 0..2000u32 {
+        all.push(number)?;
+    }
+    for eight in [false, true] {
+        for _ in 0..30u8 {
+            let numbers = taken_and_left(&rt, rt.alloc(), eight)?;
+            assert!(rt; numbers == all, "eight threads: {eight}");
+        }
     }
     Ok(())
 }

@@ -10,8 +10,10 @@ use Rattle.yew_pool.proofs.making.make_rows.Goals as goal
 pub loop-number-preserved : goal.loop-number-preserved
 loop-number-preserved g c =
     let long = length-map c.args.owns.now.items (λ (p : PlaceView _ _). p.deque) in
-    rows_more_as _ _ c.loop-number.number _ c.loop-number.owns.items c.make_row.new.owns.items c.in_ok-make_row.field-0.items _ _ c.loop-number.invariant c.in_ok-make_row.ensures.owners c.in_ok-make_row.ensures.row
-    c.in_ok-make_row.ensures.long (ap whole_among (sym long)) (popped_rows (λ row. row.items) c.push.new.self.items c.loop-number.rows.items c.in_ok-make_row.field-0 c.in_ok-push.ensures.items)
+    rows_more_as _ _ c.loop-number.number _ c.loop-number.owns.items c.make_row.new.owns.items c.in_ok-make_row.field-0.items _ _ c.loop-number.invariant
+    c.in_ok-make_row.ensures.owners c.in_ok-make_row.ensures.row
+    c.in_ok-make_row.ensures.long (ap whole_among (sym long))
+    (popped_rows (λ row. row.items) c.push.new.self.items c.loop-number.rows.items c.in_ok-make_row.field-0 c.in_ok-push.ensures.items)
 
 pub returns-clause-ready : goal.returns-clause-ready
 returns-clause-ready g c =

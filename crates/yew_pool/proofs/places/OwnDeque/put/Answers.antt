@@ -4,4 +4,6 @@ use Rattle.yew_pool.proofs.Ties.{sound_for}
 use Rattle.yew_pool.proofs.places.OwnDeque.put.Goals as goal
 
 pub push_as-requires-clause-pushes : goal.push_as-requires-clause-pushes
-push_as-requires-clause-pushes g c = pushes g.P.Carried.carries _ _ c.args.task c.self.invariant.1 (sound_for g.P.Carried.carries _ _ (worker_view c.self.inside.worker) _ c.args.task c.self.view_is c.requires)
+push_as-requires-clause-pushes g c =
+    pushes g.P.Carried.carries _ _ c.args.task c.self.invariant.1
+    (sound_for g.P.Carried.carries _ _ (worker_view c.self.inside.worker) _ c.args.task c.self.view_is c.requires)

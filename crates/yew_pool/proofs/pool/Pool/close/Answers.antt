@@ -16,7 +16,8 @@ returns-clause-ok g c =
     let before = c.args.left.now.items in let after = c.empty.new.left.items in
     on_ok c.empty.result
     (λ (h : IsEmptied g.P.Carried.carries c.settle.new.owns.items before after).
-    left_all g.P.Carried.carries c.args.self (length c.args.self.deques) (length c.args.self.deques) c.args.passes.items c.order.new.passes.items c.take_apart-owns.result.0.items c.merge.new.owns.items
+    left_all g.P.Carried.carries c.args.self (length c.args.self.deques)
+    (length c.args.self.deques) c.args.passes.items c.order.new.passes.items c.take_apart-owns.result.0.items c.merge.new.owns.items
     (map (λ row. row.items) c.take_apart-owns.result.1.items) before after c.order.ensures.same c.take_apart-owns.ensures c.merge.ensures
     (subst (λ (l : List (PlaceView _ _)). IsEmptied g.P.Carried.carries l before after) c.settle.ensures.same h))
     c.empty.ensures.ok
@@ -26,7 +27,8 @@ returns-clause-memory g c =
     let before = c.args.left.now.items in let after = c.empty.new.left.items in
     on_err c.empty.result
     (λ (h : IsPartEmptied g.P.Carried.carries c.settle.new.owns.items before after).
-    left_part g.P.Carried.carries c.args.self (length c.args.self.deques) (length c.args.self.deques) c.args.passes.items c.order.new.passes.items c.take_apart-owns.result.0.items c.merge.new.owns.items
+    left_part g.P.Carried.carries c.args.self (length c.args.self.deques)
+    (length c.args.self.deques) c.args.passes.items c.order.new.passes.items c.take_apart-owns.result.0.items c.merge.new.owns.items
     (map (λ row. row.items) c.take_apart-owns.result.1.items) before after c.order.ensures.same c.take_apart-owns.ensures c.merge.ensures
     (subst (λ (l : List (PlaceView _ _)). IsPartEmptied g.P.Carried.carries l before after) c.settle.ensures.same h))
     c.empty.ensures.err

@@ -8,15 +8,18 @@ invariant_of-self g c =
     let n = c.self.inside.number in let own = c.self.inside.own in let places = c.self.inside.places.items in
     is_seated n own places _ c.self.invariant c.args.number c.steal.new.self own
     (seated n c.args.number own places c.index_mut.result.now c.steal.new.self c.steal.result c.self.invariant.seated
-    (in_places n c.args.number own places _ c.self.view_is c.requires.within) (not_own n c.args.number own places _ c.self.view_is c.requires.other) (sym c.index_mut.ensures.value) c.steal.ensures.task c.steal.ensures.none)
+    (in_places n c.args.number own places _ c.self.view_is c.requires.within) (not_own n c.args.number own places _ c.self.view_is c.requires.other)
+    (sym c.index_mut.ensures.value) c.steal.ensures.task c.steal.ensures.none)
 
 pub returns-clause-task : goal.returns-clause-task
 returns-clause-task g c =
     let n = c.self.inside.number in let own = c.self.inside.own in let places = c.self.inside.places.items in
     has_stolen g.P.Carried.carries n c.args.number own places c.index_mut.result.now c.steal.new.self _ c.steal.result c.self.view_is c.self.invariant.seated
-    (in_places n c.args.number own places _ c.self.view_is c.requires.within) (not_own n c.args.number own places _ c.self.view_is c.requires.other) (sym c.index_mut.ensures.value) c.steal.ensures.task c.steal.ensures.sound
+    (in_places n c.args.number own places _ c.self.view_is c.requires.within) (not_own n c.args.number own places _ c.self.view_is c.requires.other)
+    (sym c.index_mut.ensures.value) c.steal.ensures.task c.steal.ensures.sound
 
 pub returns-clause-none : goal.returns-clause-none
 returns-clause-none g c =
     let n = c.self.inside.number in let own = c.self.inside.own in let places = c.self.inside.places.items in
-    looked_as n c.args.number own c.index_mut.result.now c.steal.new.self places _ c.steal.result c.self.view_is (in_places n c.args.number own places _ c.self.view_is c.requires.within) (sym c.index_mut.ensures.value) c.steal.ensures.none
+    looked_as n c.args.number own c.index_mut.result.now c.steal.new.self places _ c.steal.result c.self.view_is
+    (in_places n c.args.number own places _ c.self.view_is c.requires.within) (sym c.index_mut.ensures.value) c.steal.ensures.none
