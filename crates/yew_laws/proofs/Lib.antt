@@ -11,3 +11,4 @@ pub mod Steps
 pub mod Trees
 pub mod Views
 pub mod Weights
+pub mod TaskMembers

@@ -7,5 +7,6 @@ pub mod Optimum
 pub mod Order
 pub mod PathValue
 pub mod SearchTree
+pub mod Tasks
 pub mod Sets
 pub mod Tree

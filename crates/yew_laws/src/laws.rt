@@ -5,9 +5,11 @@ ghost use Rattle.std.specs.Prelude.{◌≡◌, ◌+◌, ◌≤◌, ℕ, List, []
 ghost use Rattle.std.specs.List.{flat_map};
 ghost use Rattle.yew_laws.specs.Bag.{SameBag};
 ghost use Rattle.yew_laws.specs.Cover.{Cover};
-ghost use Rattle.yew_laws.specs.SearchTree.{search_tree, at_path, below, numbered, tree_paths};
+ghost use Rattle.yew_laws.specs.SearchTree.{search_tree, at_path, below, numbered, tree_paths, IsTask};
 ghost use Rattle.yew_laws.specs.Order.{occurs};
+ghost use Rattle.yew_laws.specs.Tasks.{IsAmong, members_of};
 ghost use Rattle.yew_laws.specs.Tree.{tree};
+ghost use Rattle.yew_laws.specs.declared.problem.Task.{Task as TaskValue};
 
 use crate::problem::Problem;
 
@@ -45,6 +47,15 @@ pub fn tasks_cancel<P: Problem>(problem: &P)
         → SameBag (visited ++ flat_map (below t) (cut ++ sent)) (flat_map (below t) took)
         → SameBag took ([] ∷ sent)
         → Cover t visited cut }
+{
+    let _ = problem;
+}
+
+/// The tasks of a problem are those whose node is a member of its tree, at their path.
+pub fn tasks_are_members<P: Problem>(problem: &P)
+    requires { P.sound problem.now (P.root problem.now) }
+    ensures among { (task : TaskValue P.Node) → IsTask P.Problem problem.now task.path.numbers task.node → IsAmong (members_of (search_tree P.Problem problem.now)) task }
+    ensures task { (task : TaskValue P.Node) → IsAmong (members_of (search_tree P.Problem problem.now)) task → IsTask P.Problem problem.now task.path.numbers task.node }
 {
     let _ = problem;
 }

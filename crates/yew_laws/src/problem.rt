@@ -87,9 +87,10 @@ pub trait Problem: Sync {
         ensures { result ≡ bound self.now node.now };
 }
 
-/// A node to search from, with its path from the root of the tree.
+/// A node to search from, with its path from the root of the tree. For a problem `P` that is a `Task<P::Node>`: what
+/// carries tasks between threads speaks of the nodes alone.
 #[derive(Drop)]
-pub struct Task<P: Problem> {
+pub struct Task<N> {
     pub path: Path,
-    pub node: P::Node,
+    pub node: N,
 }

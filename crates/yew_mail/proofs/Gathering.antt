@@ -1,5 +1,5 @@
 -- All seats are joined to one.
-use Rattle.std.proofs.Common.{◌≡◌, ℕ, ◌+◌, ◌<◌, ◌∙◌, List, [], ◌∷◌, ◌++◌, length, Some, ap, subst, arith}
+use Rattle.std.proofs.Common.{◌≡◌, ℕ, ◌+◌, ◌∙◌, List, [], ◌∷◌, ◌++◌, length, Some, ap, subst, arith}
 use Rattle.std.specs.Prelude.{sum_by}
 use Rattle.std.specs.List.{AllByRecursion}
 use Rattle.std.proofs.lemmas.List.Sums.{sum_by_push, sum_by-append}
@@ -10,10 +10,6 @@ use Rattle.yew_mail.specs.Closing.{AreFor, IsGathering}
 pub all_parts : {X : Type 0} (P : X → Type 0) (xs ys : List X) → AllByRecursion P (xs ++ ys) → AllByRecursion P xs × AllByRecursion P ys
 all_parts P [] ys all = (tt, all)
 all_parts P (x ∷ xs) ys all = let rest = all_parts P xs ys all.1 in ((all.0, rest.0), rest.1)
-
-pub some_popped : {X : Type 0} (xs ys : List X) → 0 < length xs → xs ≡ ys ++ [] → 0 < length ys
-some_popped xs [] some e = let none = ap (λ (l : List _). length l) e in omega (arith, some, none)
-some_popped xs (y ∷ ys) some e = omega arith
 
 module _ {T Q : Type 0} where
   -- the last seat was taken off
@@ -28,8 +24,8 @@ module _ {T Q : Type 0} where
         shares = sum_off (λ (other : SeatView T Q). other.share);
         given = λ h. sum_off (λ (other : SeatView T Q). sum_by h other.given);
         got = λ h. sum_off (λ (other : SeatView T Q). sum_by h other.got);
-        problems = λ problem made.
-            (let those = all_parts (λ (other : SeatView T Q). other.problem ≡ Some problem) rest (seat ∷ []) (subst (AreFor problem) is made) in
+        made_for = λ members made.
+            (let those = all_parts (λ (other : SeatView T Q). other.members ≡ Some members) rest (seat ∷ []) (subst (AreFor members) is made) in
             (those.1.0, those.0));
       }
     where
@@ -58,14 +54,20 @@ module _ {T Q : Type 0} where
             (ap (λ (s : SeatView T Q). sum_by h s.given) after_is ∙ sum_by-append h seat.given other.given) (so_far.given h);
         got = λ h. sum_on (λ (s : SeatView T Q). sum_by h s.got) (ap (λ (s : SeatView T Q). sum_by h s.got) after_is ∙ sum_by-append h seat.got other.got)
             (so_far.got h);
-        problems = λ problem made.
-            (let before = so_far.problems problem made in
-            let those = all_parts (λ (o : SeatView T Q). o.problem ≡ Some problem) fewer (other ∷ []) (subst (AreFor problem) is before.1) in
-            (ap (λ (s : SeatView T Q). s.problem) after_is ∙ before.0, those.0));
+        made_for = λ members made.
+            (let before = so_far.made_for members made in
+            let those = all_parts (λ (o : SeatView T Q). o.members ≡ Some members) fewer (other ∷ []) (subst (AreFor members) is before.1) in
+            (ap (λ (s : SeatView T Q). s.members) after_is ∙ before.0, those.0));
       }
     where
       sum_on : (f : SeatView T Q → ℕ) → f after ≡ f seat + f other → f seat + sum_by f rest ≡ sum_by f all → f after + sum_by f fewer ≡ sum_by f all
       sum_on f both sums = let a = sum_by_push f fewer other in let b = ap (sum_by f) is in omega (arith, a, b, both, sums)
+
+  -- none is left
+  pub gather_ends : (mail : MailId) (all rest : List (SeatView T Q)) (seat : SeatView T Q) → IsGathering mail all rest seat → length rest ≡ 0
+      → IsGathering mail all [] seat
+  gather_ends mail all [] seat so_far none = so_far
+  gather_ends mail all (other ∷ rest) seat so_far none = absurd (omega (arith, none))
 
   -- what a join asks of the next seat
   pub next_mail : (mail : MailId) (all rest fewer : List (SeatView T Q)) (seat other : SeatView T Q) → IsGathering mail all rest seat

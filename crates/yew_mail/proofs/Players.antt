@@ -1,10 +1,15 @@
 -- The workers of tests: their seats are taken from a list one after another, and put into another.
 use Rattle.std.proofs.Common.{◌≡◌, ℕ, ◌+◌, ◌-◌, ◌<◌, ◌≤◌, ◌∙◌, List, [], ◌∷◌, ◌++◌, length, map, get_or, refl, sym, ap, subst, arith, zero, suc}
-use Rattle.std.specs.Prelude.{All, sum_by, None, remove}
+use Rattle.std.specs.Prelude.{◌^◌, All, sum_by, None, Some, remove}
 use Rattle.std.specs.List.{AllByRecursion}
 use Rattle.std.proofs.lemmas.List.{length-append}
 use Rattle.std.proofs.lemmas.List.Sums.{sum_by-cons}
 use Rattle.std.proofs.lemmas.List.Elements.{All-from_recursion, recursion_from_All, All-push}
+use Rattle.yew_laws.specs.Tasks.{IsAmong}
+use Rattle.yew_laws.specs.Tree.{node_at}
+use Rattle.yew_laws.specs.declared.problem.Task.{Task}
+use Rattle.yew_laws.proofs.TaskMembers.{task-among}
+use Rattle.yew_mail.specs.Star.{children_of, star_tree, star_members, star-ranked, leaf_found}
 use Rattle.yew_mail.specs.Seats.{MailId, SeatView, new_seat}
 use Rattle.yew_mail.specs.Views.{counted_from}
 use Rattle.yew_mail.specs.Players.{IsSeatOf}
@@ -46,9 +51,9 @@ module _ {X : Type 0} where
   rest_left all rest after x is e = e ∙ ap (λ (l : List X). remove l 0) is
 
 module _ {T Q : Type 0} where
-  pub new_is_seat : (mail : MailId) (problem : Q) (number : ℕ) (seat : SeatView T Q) → seat ≡ new_seat mail problem number → 0 < number
-      → number ≤ mail.workers → IsSeatOf mail problem number None seat
-  new_is_seat mail problem number seat is above within = subst (IsSeatOf mail problem number None) (sym is) record {
+  pub new_is_seat : (mail : MailId) (members : Q) (number : ℕ) (seat : SeatView T Q) → seat ≡ new_seat mail members number → 0 < number
+      → number ≤ mail.workers → IsSeatOf mail members number None seat
+  new_is_seat mail members number seat is above within = subst (IsSeatOf mail members number None) (sym is) record {
     same_mail = refl;
     share = refl;
     made_for = refl;
@@ -78,3 +83,9 @@ both_lists {X} xs ys all n m P is left right =
           (AllByRecursion-append P xs ys (recursion_from_All P xs left.0) (recursion_from_All P ys right.0))),
       omega (arith, a, b, c, d),
     )
+
+-- the task of a child of the root
+pub leaf_among : (leaves k : ℕ) (task : Task ℕ) → leaves + 1 < 2 ^ 32 → k < leaves → task.path.numbers ≡ k ∷ [] → task.node ≡ k + 1
+    → IsAmong (star_members leaves) task
+leaf_among leaves k task few low path node = task-among (star_tree leaves) (star-ranked leaves) (few, omega arith) task
+    (ap (λ (p : List ℕ). node_at (children_of leaves) 0 p) path ∙ leaf_found leaves k low ∙ ap Some (sym node))

@@ -18,23 +18,23 @@ module _ {T Q : Type 0} where
   abbrev pub got_by : List (SeatView T Q) → List T
   got_by seats = flat_map (λ seat. seat.got) seats
 
-  -- all these seats are made for this problem
+  -- all these seats are made for this members
   abbrev pub AreFor : Q → List (SeatView T Q) → Type 0
-  AreFor problem seats = AllByRecursion (λ seat. seat.problem ≡ Some problem) seats
+  AreFor members seats = AllByRecursion (λ seat. seat.members ≡ Some members) seats
 
   -- what is left of all seats' gifts was appended: with what they got, it is the bag of what they gave
   pub record IsLeft (sound : Q → T → Type 0) (seats : List (SeatView T Q)) (before after : List T) : Type 0 where
     pub rest : List T
     pub appended : after ≡ before ++ rest
     pub bag : SameBag (got_by seats ++ rest) (given_by seats)
-    pub are_sound : (problem : Q) → AreFor problem seats → AllByRecursion (sound problem) rest
+    pub are_sound : (members : Q) → AreFor members seats → AllByRecursion (sound members) rest
 
   -- some of it was appended
   pub record IsPartLeft (sound : Q → T → Type 0) (seats : List (SeatView T Q)) (before after : List T) : Type 0 where
     pub rest : List T
     pub appended : after ≡ before ++ rest
     pub bag : PartOfBag (got_by seats ++ rest) (given_by seats)
-    pub are_sound : (problem : Q) → AreFor problem seats → AllByRecursion (sound problem) rest
+    pub are_sound : (members : Q) → AreFor members seats → AllByRecursion (sound members) rest
 
   -- one seat has taken in all of these seats but the rest
   pub record IsGathering (mail : MailId) (all rest : List (SeatView T Q)) (seat : SeatView T Q) : Type 0 where
@@ -43,7 +43,7 @@ module _ {T Q : Type 0} where
     pub shares : seat.share + sum_by (λ other. other.share) rest ≡ sum_by (λ other. other.share) all
     pub given : (h : T → ℕ) → sum_by h seat.given + sum_by (λ other. sum_by h other.given) rest ≡ sum_by (λ other. sum_by h other.given) all
     pub got : (h : T → ℕ) → sum_by h seat.got + sum_by (λ other. sum_by h other.got) rest ≡ sum_by (λ other. sum_by h other.got) all
-    pub problems : (problem : Q) → AreFor problem all → (seat.problem ≡ Some problem) × AreFor problem rest
+    pub made_for : (members : Q) → AreFor members all → (seat.members ≡ Some members) × AreFor members rest
 
 -- the slots before this one were taken, and what the first of them had was appended: what all had, as long as memory lasted
 pub record IsEmptying {T : Type 0} (slots : List (Vec T)) (before : List T) (next : ℕ) (lasts : Bool) (after : List T) : Type 0 where

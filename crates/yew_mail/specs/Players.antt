@@ -11,10 +11,10 @@ ask_of None = Nowhere
 ask_of (Some victim) = In victim
 
 -- the seat of the worker with this number, as `new` gave it, whatever it has done since, and whom it asks
-pub record IsSeatOf {T Q : Type 0} (mail : MailId) (problem : Q) (number : ℕ) (asks : Option ℕ) (seat : SeatView T Q) : Type 0 where
+pub record IsSeatOf {T Q : Type 0} (mail : MailId) (members : Q) (number : ℕ) (asks : Option ℕ) (seat : SeatView T Q) : Type 0 where
   pub same_mail : seat.mail ≡ mail
   pub share : seat.share ≡ 1
-  pub made_for : seat.problem ≡ Some problem
+  pub made_for : seat.members ≡ Some members
   pub own : first_of seat.numbers ≡ number
   pub above : 0 < number
   pub within : number ≤ mail.workers

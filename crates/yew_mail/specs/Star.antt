@@ -3,6 +3,8 @@ use Rattle.std.specs.Prelude.{◌≡◌, ◌≢◌, ℕ, ◌+◌, ◌-◌, ◌<�
 use Rattle.std.specs.List.{AllByRecursion, range_with_len}
 use Rattle.std.proofs.Common.{zero, suc, arith, ap}
 use Rattle.std.proofs.lemmas.List.FromFn.{length-range_with_len}
+use Rattle.yew_laws.specs.SearchTree.{SearchTree}
+use Rattle.yew_laws.specs.Tasks.{members_of}
 use Rattle.yew_laws.specs.Tree.{IsRanked, IsBounded, node_at}
 use Rattle.yew_laws.proofs.Bounds.{IsBounded-from_steps}
 
@@ -16,6 +18,12 @@ rank_of (suc n) = 0
 
 abbrev pub IsWithin : ℕ → ℕ → Type 0
 IsWithin leaves n = (leaves + 1 < 2 ^ 32) × (n ≤ leaves)
+
+abbrev pub star_tree : ℕ → SearchTree ℕ
+star_tree leaves = record { root = 0; children = children_of leaves; rank = rank_of; worth = λ _. 0; bound = λ _. 0 }
+
+abbrev pub star_members : ℕ → List (List ℕ × ℕ)
+star_members leaves = members_of (star_tree leaves)
 
 all_numbers : (P : ℕ → Type 0) (from count : ℕ) → ((n : ℕ) → from ≤ n → n < from + count → P n) → AllByRecursion P (range_with_len from count)
 all_numbers P from zero each = tt

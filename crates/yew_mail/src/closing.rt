@@ -5,14 +5,13 @@ ghost use Rattle.yew_mail.specs.Closing.{tasks_in};
 
 use atomic_table::Closed;
 use std::alloc::Global;
-use yew_laws::Memory;
-use yew_tasks::Carried;
+use yew_laws::{Memory, Task};
 
 // Appends what the slots have, in the order of the boxes, as long as memory lasts. Each slot is taken in any case,
 // since only an empty table can be freed.
-pub fn empty<P: Carried>(
-    mut closed: Closed<Vec<P::Task>, Global>,
-    left: &mut Vec<P::Task>,
+pub fn empty<N: Drop>(
+    mut closed: Closed<Vec<Task<N>>, Global>,
+    left: &mut Vec<Task<N>>,
 ) -> Result<(), Memory>
     requires { IsFull closed.slots }
     ensures ok { OnOk result (left.new.items ≡ left.old.items ++ tasks_in (slots_items closed.slots)) }
@@ -20,14 +19,14 @@ pub fn empty<P: Carried>(
 {
     let mut lasts = true;
     for slot in 0..closed.slot_count() {
-        lasts = append::<P>(left, closed.take(slot), lasts);
+        lasts = append(left, closed.take(slot), lasts);
     }
     closed.free();
     if lasts { Ok(()) } else { Err(Memory) }
 }
 
 // Appends these tasks where memory has lasted, and answers whether it still does.
-fn append<P: Carried>(left: &mut Vec<P::Task>, mut tasks: Vec<P::Task>, lasts: bool) -> bool
+fn append<N: Drop>(left: &mut Vec<Task<N>>, mut tasks: Vec<Task<N>>, lasts: bool) -> bool
     ensures appended { result ≡ true → (lasts ≡ true) × (left.new.items ≡ left.old.items ++ tasks.items) }
     ensures dropped { result ≡ false → left.new.items ≡ left.old.items }
 {

@@ -1,36 +1,34 @@
 ghost use Rattle.std.specs.Prelude.{◌≡◌, ◌<◌, ◌++◌, [], ◌∷◌, length, IfOk};
 ghost use Rattle.std.specs.List.{AllByRecursion};
+ghost use Rattle.yew_laws.specs.Tasks.{IsAmong};
 ghost use Rattle.yew_mail.specs.Seats.{new_seat};
+ghost use Rattle.yew_mail.specs.Star.{star_members};
 
 use crate::tests::{Star, gift, leaf};
 use crate::{Fetched, Mail, MailSeat, Seen};
 use std::alloc::Global;
 use std::process::Abort;
 use std::test::Fail;
-use yew_laws::Memory;
-use yew_tasks::Carried;
+use yew_laws::{Memory, Task};
 
 /// Mailboxes for two workers, and their seats.
-fn pair<P: Carried>(
-    alloc: Global,
-    problem: &P,
-) -> Result<(Mail<P>, MailSeat<P>, MailSeat<P>), Memory>
+fn pair(alloc: Global, star: &Star) -> Result<(Mail<u32>, MailSeat<u32>, MailSeat<u32>), Memory>
     ensures mail { IfOk result (λ r. r.0.workers ≡ 2) }
-    ensures first { IfOk result (λ r. r.1 ≡ new_seat r.0 problem.now 1) }
-    ensures second { IfOk result (λ r. r.2 ≡ new_seat r.0 problem.now 2) }
+    ensures first { IfOk result (λ r. r.1 ≡ new_seat r.0 (star_members star.now.leaves) 1) }
+    ensures second { IfOk result (λ r. r.2 ≡ new_seat r.0 (star_members star.now.leaves) 2) }
 {
-    let (mail, mut seats) = Mail::new(alloc, problem, 2)?;
+    let (mail, mut seats) = Mail::new(alloc, star, 2)?;
     let first = seats.remove(0);
     let second = seats.remove(0);
     Ok((mail, first, second))
 }
 
 /// Two seats as a list.
-fn listed<P: Carried>(
+fn listed(
     alloc: Global,
-    first: MailSeat<P>,
-    second: MailSeat<P>,
-) -> Result<Vec<MailSeat<P>>, Memory>
+    first: MailSeat<u32>,
+    second: MailSeat<u32>,
+) -> Result<Vec<MailSeat<u32>>, Memory>
     ensures { IfOk result (λ seats. seats.items ≡ first ∷ second ∷ []) }
 {
     let mut seats = Vec::with_capacity(alloc, 2)?;
@@ -41,17 +39,17 @@ fn listed<P: Carried>(
 
 /// The first of two workers gives the second these tasks, which are fetched or not: how many were got, and how many
 /// were left.
-fn handed<P: Carried>(
+fn handed(
     rt: &impl Abort,
     alloc: Global,
-    problem: &P,
-    tasks: Vec<P::Task>,
+    star: &Star,
+    tasks: Vec<Task<u32>>,
     fetched: bool,
 ) -> Result<(usize, usize), Memory>
     requires some { 0 < length tasks.items }
-    requires sound { AllByRecursion (P.carries problem.now) tasks.items }
+    requires sound { AllByRecursion (IsAmong (star_members star.now.leaves)) tasks.items }
 {
-    let (mail, mut first, mut second) = pair(alloc, problem)?;
+    let (mail, mut first, mut second) = pair(alloc, star)?;
     let Seen::Shut = mail.look(&mut first) else {
         panic!(rt; "a new box is not shut")
     };
@@ -91,12 +89,8 @@ fn a_gift_is_fetched_or_left(rt: HostRuntime) -> Result<(), Fail> {
 }
 
 /// The second of two workers asks the first one, whose box is still shut, or was closed again: no ask comes in time.
-fn too_early_or_late<P: Carried>(
-    rt: &impl Abort,
-    alloc: Global,
-    problem: &P,
-) -> Result<(), Memory> {
-    let (mail, mut first, mut second) = pair(alloc, problem)?;
+fn too_early_or_late(rt: &impl Abort, alloc: Global, star: &Star) -> Result<(), Memory> {
+    let (mail, mut first, mut second) = pair(alloc, star)?;
     let Seen::Shut = mail.look(&mut first) else {
         panic!(rt; "a new box is not shut")
     };
@@ -114,8 +108,8 @@ fn too_early_or_late<P: Carried>(
 }
 
 /// It asks before the box is closed, and is denied.
-fn denied<P: Carried>(rt: &impl Abort, alloc: Global, problem: &P) -> Result<(), Memory> {
-    let (mail, mut first, mut second) = pair(alloc, problem)?;
+fn denied(rt: &impl Abort, alloc: Global, star: &Star) -> Result<(), Memory> {
+    let (mail, mut first, mut second) = pair(alloc, star)?;
     let Seen::Shut = mail.look(&mut first) else {
         panic!(rt; "a new box is not shut")
     };
@@ -140,8 +134,8 @@ fn denied<P: Carried>(rt: &impl Abort, alloc: Global, problem: &P) -> Result<(),
 }
 
 /// It asks a worker that has opened its box and is gone: there is no answer, and nothing is left.
-fn unanswered<P: Carried>(rt: &impl Abort, alloc: Global, problem: &P) -> Result<usize, Memory> {
-    let (mail, mut first, mut second) = pair(alloc, problem)?;
+fn unanswered(rt: &impl Abort, alloc: Global, star: &Star) -> Result<usize, Memory> {
+    let (mail, mut first, mut second) = pair(alloc, star)?;
     let Seen::Shut = mail.look(&mut first) else {
         panic!(rt; "a new box is not shut")
     };

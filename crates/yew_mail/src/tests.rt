@@ -3,8 +3,8 @@ ghost use Rattle.std.specs.List.{AllByRecursion, range_with_len};
 ghost use Rattle.std.specs.Thread.{IsSync};
 ghost use Rattle.yew_mail.specs.Players.{IsSeatOf};
 ghost use Rattle.yew_mail.specs.Seats.{new_seat};
-ghost use Rattle.yew_mail.specs.Star.{children_of, rank_of, IsWithin, star-ranked, star-bounded, star-countable, star-root_rank};
-ghost use Rattle.yew_tasks.specs.Tasks.{is_task};
+ghost use Rattle.yew_mail.specs.Star.{star_members, children_of, rank_of, IsWithin, star-ranked, star-bounded, star-countable, star-root_rank};
+ghost use Rattle.yew_laws.specs.Tasks.{IsAmong};
 ghost use Rattle.yew_mail.specs.Views.{numbers_to};
 
 use crate::{Fetched, Mail, MailSeat, Seen};
@@ -84,7 +84,7 @@ impl Problem for Star {
 }
 
 /// The task of a child of the root.
-pub fn leaf(alloc: Global, star: &Star, number: u32) -> Result<Task<Star>, Memory>
+pub fn leaf(alloc: Global, star: &Star, number: u32) -> Result<Task<u32>, Memory>
     requires { (number < star.now.leaves) × (star.now.leaves < 4294967295) }
     ensures { IfOk result (λ task. (task.path.numbers ≡ number ∷ []) × (task.node ≡ number + 1)) }
 {
@@ -96,11 +96,11 @@ pub fn leaf(alloc: Global, star: &Star, number: u32) -> Result<Task<Star>, Memor
 }
 
 /// One task as a gift.
-pub fn gift<P: Problem>(alloc: Global, problem: &P, task: Task<P>) -> Result<Vec<Task<P>>, Memory>
-    requires { is_task P.Problem problem.now task }
-    ensures { IfOk result (λ tasks. (0 < length tasks.items) × AllByRecursion (is_task P.Problem problem.now) tasks.items) }
+pub fn gift(alloc: Global, star: &Star, task: Task<u32>) -> Result<Vec<Task<u32>>, Memory>
+    requires { IsAmong (star_members star.now.leaves) task }
+    ensures { IfOk result (λ tasks. (0 < length tasks.items) × AllByRecursion (IsAmong (star_members star.now.leaves)) tasks.items) }
 {
-    let _ = problem;
+    let _ = star;
     let mut tasks = Vec::with_capacity(alloc, 1)?;
     tasks.push(task)?;
     Ok(tasks)
@@ -108,32 +108,32 @@ pub fn gift<P: Problem>(alloc: Global, problem: &P, task: Task<P>) -> Result<Vec
 
 /// A worker at the mailboxes: whom it asks, the nodes that it gave and the tasks that it got.
 #[derive(Drop)]
-struct Worker<P: Problem> {
-    seat: MailSeat<P>,
+struct Worker {
+    seat: MailSeat<u32>,
     number: u32,
     asks: Option<u32>,
     // The child of the root that it gives next.
     next: u32,
     given: Vec<u32>,
-    got: Vec<Task<P>>,
+    got: Vec<Task<u32>>,
 }
 
-impl<P: Problem> Worker<P> {
+impl Worker {
     /// Looks at the own box: opens it, or answers who asks.
     fn answer(
         &mut self,
-        mail: &Mail<P>,
-        problem: &P,
-        gift: Vec<Task<P>>,
+        mail: &Mail<u32>,
+        star: &Star,
+        gift: Vec<Task<u32>>,
         node: u32,
     ) -> Result<(), Memory>
-        requires seat { IsSeatOf mail.now problem.now self.old.number self.old.asks self.old.seat }
+        requires seat { IsSeatOf mail.now (star_members star.now.leaves) self.old.number self.old.asks self.old.seat }
         requires some { 0 < length gift.items }
-        requires sound { AllByRecursion (is_task P.Problem problem.now) gift.items }
-        ensures seat { IsSeatOf mail.now problem.now self.new.number self.new.asks self.new.seat }
+        requires sound { AllByRecursion (IsAmong (star_members star.now.leaves)) gift.items }
+        ensures seat { IsSeatOf mail.now (star_members star.now.leaves) self.new.number self.new.asks self.new.seat }
         ensures number { self.new.number ≡ self.old.number }
     {
-        let _ = problem;
+        let _ = star;
         match mail.look(&mut self.seat) {
             Seen::Shut => mail.open_box(&mut self.seat),
             Seen::Asked(_) if node % 8 == 0 => mail.deny(&mut self.seat),
@@ -147,12 +147,12 @@ impl<P: Problem> Worker<P> {
     }
 
     /// Asks the victim, or looks for the answer to an ask.
-    fn beg(&mut self, mail: &Mail<P>, problem: &P, victim: u32) -> Result<(), Memory>
-        requires seat { IsSeatOf mail.now problem.now self.old.number self.old.asks self.old.seat }
+    fn beg(&mut self, mail: &Mail<u32>, star: &Star, victim: u32) -> Result<(), Memory>
+        requires seat { IsSeatOf mail.now (star_members star.now.leaves) self.old.number self.old.asks self.old.seat }
         requires victim { (0 < victim) × (victim ≤ mail.now.workers) × (self.old.number ≢ victim) }
-        ensures { IsSeatOf mail.now problem.now self.new.number self.new.asks self.new.seat }
+        ensures { IsSeatOf mail.now (star_members star.now.leaves) self.new.number self.new.asks self.new.seat }
     {
-        let _ = problem;
+        let _ = star;
         match self.asks {
             None => {
                 if mail.ask(&mut self.seat, victim) {
@@ -188,15 +188,15 @@ fn other(number: u32, workers: u32, turn: u32) -> u32
 /// One turn of a worker.
 fn take_turn(
     alloc: Global,
-    mail: &Mail<Star>,
+    mail: &Mail<u32>,
     star: &Star,
-    worker: &mut Worker<Star>,
+    worker: &mut Worker,
     turn: u32,
 ) -> Result<(), Memory>
     requires leaves { star.now.leaves < 4294967295 }
     requires count { (1 < mail.now.workers) × (mail.now.workers ≤ 64) }
-    requires seat { IsSeatOf mail.now star.now worker.old.number worker.old.asks worker.old.seat }
-    ensures { IsSeatOf mail.now star.now worker.new.number worker.new.asks worker.new.seat }
+    requires seat { IsSeatOf mail.now (star_members star.now.leaves) worker.old.number worker.old.asks worker.old.seat }
+    ensures { IsSeatOf mail.now (star_members star.now.leaves) worker.new.number worker.new.asks worker.new.seat }
 {
     let number = worker.next;
     if number >= star.leaves {
@@ -213,15 +213,16 @@ fn take_turn(
 /// The workers take their turns, one after another.
 fn play(
     alloc: Global,
-    mail: &Mail<Star>,
+    mail: &Mail<u32>,
     star: &Star,
-    mut workers: Vec<Worker<Star>>,
+    mut workers: Vec<Worker>,
     turns: u32,
-) -> Result<Vec<Worker<Star>>, Memory>
+) -> Result<Vec<Worker>, Memory>
     requires leaves { star.now.leaves < 4294967295 }
     requires count { (1 < mail.now.workers) × (mail.now.workers ≤ 64) }
-    requires workers { All (λ w. IsSeatOf mail.now star.now w.number w.asks w.seat) workers.items }
-    ensures { IfOk result (λ after. All (λ w. IsSeatOf mail.now star.now w.number w.asks w.seat) after.items × (length after.items ≡ length workers.items)) }
+    requires workers { All (λ w. IsSeatOf mail.now (star_members star.now.leaves) w.number w.asks w.seat) workers.items }
+    ensures { IfOk result (λ after. All (λ w. IsSeatOf mail.now (star_members star.now.leaves) w.number w.asks w.seat) after.items
+        × (length after.items ≡ length workers.items)) }
 {
     for turn in 0..turns {
         for at in 0..workers.len() {
@@ -232,17 +233,17 @@ fn play(
 }
 
 /// The workers with these seats.
-fn seated<P: Problem>(
+fn seated(
     alloc: Global,
-    mail: &Mail<P>,
-    problem: &P,
-    mut seats: Vec<MailSeat<P>>,
-) -> Result<Vec<Worker<P>>, Memory>
-    requires { seats.items ≡ map (new_seat mail.now problem.now) (numbers_to mail.now.workers) }
-    ensures { IfOk result (λ workers. All (λ w. IsSeatOf mail.now problem.now w.number w.asks w.seat) workers.items
+    mail: &Mail<u32>,
+    star: &Star,
+    mut seats: Vec<MailSeat<u32>>,
+) -> Result<Vec<Worker>, Memory>
+    requires { seats.items ≡ map (new_seat mail.now (star_members star.now.leaves)) (numbers_to mail.now.workers) }
+    ensures { IfOk result (λ workers. All (λ w. IsSeatOf mail.now (star_members star.now.leaves) w.number w.asks w.seat) workers.items
         × (length workers.items ≡ mail.now.workers)) }
 {
-    let _ = problem;
+    let _ = star;
     let mut workers = Vec::with_capacity(alloc, mail.workers() as usize)?;
     for place in 0..mail.workers() {
         let seat = seats.remove(0);
@@ -259,17 +260,17 @@ fn seated<P: Problem>(
 }
 
 /// The seats of all these workers, the nodes that they gave and the tasks that they got.
-fn taken_apart<P: Problem>(
+fn taken_apart(
     alloc: Global,
-    mail: &Mail<P>,
-    problem: &P,
-    mut workers: Vec<Worker<P>>,
-) -> Result<(Vec<MailSeat<P>>, Vec<u32>, Vec<Task<P>>), Memory>
-    requires { All (λ w. IsSeatOf mail.now problem.now w.number w.asks w.seat) workers.items }
+    mail: &Mail<u32>,
+    star: &Star,
+    mut workers: Vec<Worker>,
+) -> Result<(Vec<MailSeat<u32>>, Vec<u32>, Vec<Task<u32>>), Memory>
+    requires { All (λ w. IsSeatOf mail.now (star_members star.now.leaves) w.number w.asks w.seat) workers.items }
     ensures { IfOk result (λ r. All (λ seat. (seat.mail ≡ mail.now) × (seat.share ≡ 1)) r.0.items × (length r.0.items ≡ length workers.items)) }
 {
     let _ = mail;
-    let _ = problem;
+    let _ = star;
     let mut seats = Vec::with_capacity(alloc, workers.len())?;
     let mut given = Vec::new(alloc);
     let mut tasks = Vec::new(alloc);
@@ -292,12 +293,12 @@ fn taken_apart<P: Problem>(
 /// Closes the mailboxes: the nodes that were given, and those that were got or left, by rising number.
 fn settled(
     alloc: Global,
-    mail: Mail<Star>,
+    mail: Mail<u32>,
     star: &Star,
-    workers: Vec<Worker<Star>>,
+    workers: Vec<Worker>,
 ) -> Result<(Vec<u32>, Vec<u32>), Memory>
     requires count { length workers.items ≡ mail.workers }
-    requires workers { All (λ w. IsSeatOf mail star.now w.number w.asks w.seat) workers.items }
+    requires workers { All (λ w. IsSeatOf mail (star_members star.now.leaves) w.number w.asks w.seat) workers.items }
 {
     let (seats, mut given, mut tasks) = taken_apart(alloc, &mail, star, workers)?;
     mail.close(seats, &mut tasks)?;
@@ -307,7 +308,7 @@ fn settled(
     Ok((given, nodes))
 }
 
-fn nodes_of(alloc: Global, tasks: &[Task<Star>]) -> Result<Vec<u32>, Memory> {
+fn nodes_of(alloc: Global, tasks: &[Task<u32>]) -> Result<Vec<u32>, Memory> {
     let mut nodes = Vec::with_capacity(alloc, tasks.len())?;
     for task in tasks {
         nodes.push(task.node)?;
@@ -316,19 +317,22 @@ fn nodes_of(alloc: Global, tasks: &[Task<Star>]) -> Result<Vec<u32>, Memory> {
 }
 
 /// The workers of two threads, of which there are so many in each.
-fn together<P: Problem>(
-    mail: &Mail<P>,
-    problem: &P,
-    left: Result<Vec<Worker<P>>, Memory>,
-    right: Result<Vec<Worker<P>>, Memory>,
+fn together(
+    mail: &Mail<u32>,
+    star: &Star,
+    left: Result<Vec<Worker>, Memory>,
+    right: Result<Vec<Worker>, Memory>,
     counts: (usize, usize),
-) -> Result<Vec<Worker<P>>, Memory>
-    requires left { IfOk left (λ workers. All (λ w. IsSeatOf mail.now problem.now w.number w.asks w.seat) workers.items × (length workers.items ≡ counts.0)) }
-    requires right { IfOk right (λ workers. All (λ w. IsSeatOf mail.now problem.now w.number w.asks w.seat) workers.items × (length workers.items ≡ counts.1)) }
-    ensures { IfOk result (λ all. All (λ w. IsSeatOf mail.now problem.now w.number w.asks w.seat) all.items × (length all.items ≡ counts.0 + counts.1)) }
+) -> Result<Vec<Worker>, Memory>
+    requires left { IfOk left (λ workers. All (λ w. IsSeatOf mail.now (star_members star.now.leaves) w.number w.asks w.seat) workers.items
+        × (length workers.items ≡ counts.0)) }
+    requires right { IfOk right (λ workers. All (λ w. IsSeatOf mail.now (star_members star.now.leaves) w.number w.asks w.seat) workers.items
+        × (length workers.items ≡ counts.1)) }
+    ensures { IfOk result (λ all. All (λ w. IsSeatOf mail.now (star_members star.now.leaves) w.number w.asks w.seat) all.items
+        × (length all.items ≡ counts.0 + counts.1)) }
 {
     let _ = mail;
-    let _ = problem;
+    let _ = star;
     let _ = counts;
     let mut left = left?;
     let mut right = right?;
@@ -340,16 +344,16 @@ fn together<P: Problem>(
 fn in_two<R: Threads + Sync>(
     rt: &R,
     alloc: Global,
-    mail: &Mail<Star>,
+    mail: &Mail<u32>,
     star: &Star,
-    workers: (Vec<Worker<Star>>, Vec<Worker<Star>>),
+    workers: (Vec<Worker>, Vec<Worker>),
     turns: u32,
-) -> Result<Vec<Worker<Star>>, Memory>
+) -> Result<Vec<Worker>, Memory>
     requires leaves { star.now.leaves < 4294967295 }
     requires count { (1 < mail.now.workers) × (mail.now.workers ≤ 64) }
-    requires first { All (λ w. IsSeatOf mail.now star.now w.number w.asks w.seat) workers.0.items }
-    requires second { All (λ w. IsSeatOf mail.now star.now w.number w.asks w.seat) workers.1.items }
-    ensures { IfOk result (λ after. All (λ w. IsSeatOf mail.now star.now w.number w.asks w.seat) after.items
+    requires first { All (λ w. IsSeatOf mail.now (star_members star.now.leaves) w.number w.asks w.seat) workers.0.items }
+    requires second { All (λ w. IsSeatOf mail.now (star_members star.now.leaves) w.number w.asks w.seat) workers.1.items }
+    ensures { IfOk result (λ after. All (λ w. IsSeatOf mail.now (star_members star.now.leaves) w.number w.asks w.seat) after.items
         × (length after.items ≡ length workers.0.items + length workers.1.items)) }
 {
     let (left, right) = workers;
@@ -363,18 +367,18 @@ fn in_two<R: Threads + Sync>(
 }
 
 /// The first half of the workers, and the second.
-fn halves<P: Problem>(
-    mail: &Mail<P>,
-    problem: &P,
-    mut workers: Vec<Worker<P>>,
-) -> Result<(Vec<Worker<P>>, Vec<Worker<P>>), Memory>
-    requires { All (λ w. IsSeatOf mail.now problem.now w.number w.asks w.seat) workers.items }
-    ensures first { IfOk result (λ r. All (λ w. IsSeatOf mail.now problem.now w.number w.asks w.seat) r.0.items) }
-    ensures second { IfOk result (λ r. All (λ w. IsSeatOf mail.now problem.now w.number w.asks w.seat) r.1.items) }
+fn halves(
+    mail: &Mail<u32>,
+    star: &Star,
+    mut workers: Vec<Worker>,
+) -> Result<(Vec<Worker>, Vec<Worker>), Memory>
+    requires { All (λ w. IsSeatOf mail.now (star_members star.now.leaves) w.number w.asks w.seat) workers.items }
+    ensures first { IfOk result (λ r. All (λ w. IsSeatOf mail.now (star_members star.now.leaves) w.number w.asks w.seat) r.0.items) }
+    ensures second { IfOk result (λ r. All (λ w. IsSeatOf mail.now (star_members star.now.leaves) w.number w.asks w.seat) r.1.items) }
     ensures count { IfOk result (λ r. length r.0.items + length r.1.items ≡ length workers.items) }
 {
     let _ = mail;
-    let _ = problem;
+    let _ = star;
     let second = workers.split_off(workers.len() / 2)?;
     Ok((workers, second))
 }
@@ -383,15 +387,16 @@ fn halves<P: Problem>(
 fn in_four<R: Threads + Sync>(
     rt: &R,
     alloc: Global,
-    mail: &Mail<Star>,
+    mail: &Mail<u32>,
     star: &Star,
-    workers: Vec<Worker<Star>>,
+    workers: Vec<Worker>,
     turns: u32,
-) -> Result<Vec<Worker<Star>>, Memory>
+) -> Result<Vec<Worker>, Memory>
     requires leaves { star.now.leaves < 4294967295 }
     requires count { (1 < mail.now.workers) × (mail.now.workers ≤ 64) }
-    requires workers { All (λ w. IsSeatOf mail.now star.now w.number w.asks w.seat) workers.items }
-    ensures { IfOk result (λ after. All (λ w. IsSeatOf mail.now star.now w.number w.asks w.seat) after.items × (length after.items ≡ length workers.items)) }
+    requires workers { All (λ w. IsSeatOf mail.now (star_members star.now.leaves) w.number w.asks w.seat) workers.items }
+    ensures { IfOk result (λ after. All (λ w. IsSeatOf mail.now (star_members star.now.leaves) w.number w.asks w.seat) after.items
+        × (length after.items ≡ length workers.items)) }
 {
     let (left, right) = halves(mail, star, workers)?;
     let counts = (left.len(), right.len());
@@ -399,18 +404,25 @@ fn in_four<R: Threads + Sync>(
     let right = halves(mail, star, right)?;
     let (left, right) = join(
         rt,
-        || -> Result<Vec<Worker<Star>>, Memory>
+        || -> Result<Vec<Worker>, Memory>
             requires { IsSync R.row × (star.now.leaves < 4294967295) × (1 < mail.now.workers) × (mail.now.workers ≤ 64)
-                × All (λ w. IsSeatOf mail.now star.now w.number w.asks w.seat) left.0.items
-                × All (λ w. IsSeatOf mail.now star.now w.number w.asks w.seat) left.1.items }
+                × All (λ w. IsSeatOf mail.now (star_members star.now.leaves) w.number w.asks w.seat) left.0.items
+                × All (λ w. IsSeatOf mail.now (star_members star.now.leaves) w.number w.asks w.seat) left.1.items }
         { in_two(rt, alloc, mail, star, left, turns) },
-        || -> Result<Vec<Worker<Star>>, Memory>
+        || -> Result<Vec<Worker>, Memory>
             requires { IsSync R.row × (star.now.leaves < 4294967295) × (1 < mail.now.workers) × (mail.now.workers ≤ 64)
-                × All (λ w. IsSeatOf mail.now star.now w.number w.asks w.seat) right.0.items
-                × All (λ w. IsSeatOf mail.now star.now w.number w.asks w.seat) right.1.items }
+                × All (λ w. IsSeatOf mail.now (star_members star.now.leaves) w.number w.asks w.seat) right.0.items
+                × All (λ w. IsSeatOf mail.now (star_members star.now.leaves) w.number w.asks w.seat) right.1.items }
         { in_two(rt, alloc, mail, star, right, turns) },
     );
     together(mail, star, left, right, counts)
+}
+
+/// With more leaves than are given. Proofs don't see how many.
+fn wide_star() -> Star
+    ensures { result.leaves < 4294967295 }
+{
+    Star { leaves: 4_000_000 }
 }
 
 /// What two or four threads gave, and what they got or was left, where so many workers take so many turns.
@@ -423,7 +435,7 @@ fn traded<R: Threads + Sync>(
 ) -> Result<(Vec<u32>, Vec<u32>), Memory>
     requires { (1 < workers) × (workers ≤ 64) }
 {
-    let star = Star { leaves: 4_000_000 };
+    let star = wide_star();
     let (mail, seats) = Mail::new(alloc, &star, workers)?;
     let all = seated(alloc, &mail, &star, seats)?;
     let all = if four {

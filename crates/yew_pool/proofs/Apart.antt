@@ -32,7 +32,7 @@ module _ {T Q : Type 0} where
     shares = refl;
     put = λ h. omega arith;
     took = λ h. omega arith;
-    told = λ about a. (All-nil (λ (own : PlaceView T Q). own.hand.problem ≡ about), a);
+    told = λ about a. (All-nil (λ (own : PlaceView T Q). own.hand.members ≡ about), a);
   }
 
   -- one more pass was taken apart
@@ -81,9 +81,9 @@ module _ {T Q : Type 0} where
             let f = ap (λ (t : PassView T Q). sum_by h t.took) view in let i = is.took h in omega (arith, a, b, c, d, f, i, j)
             );
         told = λ about a. (
-          All-push (λ (o : PlaceView T Q). o.hand.problem ≡ about) owns own (is.told about a).0
-              (ap (λ (t : PassView T Q). t.problem) view ∙ last (λ (p : PassView T Q). p.problem ≡ about) (is.told about a).1),
-          front (λ (p : PassView T Q). p.problem ≡ about) (is.told about a).1,
+          All-push (λ (o : PlaceView T Q). o.hand.members ≡ about) owns own (is.told about a).0
+              (ap (λ (t : PassView T Q). t.members) view ∙ last (λ (p : PassView T Q). p.members ≡ about) (is.told about a).1),
+          front (λ (p : PassView T Q). p.members ≡ about) (is.told about a).1,
         );
       }
     where

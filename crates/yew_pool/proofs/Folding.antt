@@ -36,7 +36,7 @@ module _ {T Q : Type 0} where
     more = [];
     ahead = e ∙ sym (append-nil _);
     same = refl;
-    problems = refl;
+    members = refl;
     wholes = refl;
     shares = refl;
     put = λ h. refl;
@@ -60,7 +60,7 @@ module _ {T Q : Type 0} where
         ahead = is.ahead ∙ (ap (λ (l : List DequeId). l ++ is.more) (map-append (λ (p : PlaceView T Q). p.deque) rest (place ∷ []))
             ∙ append_assoc (deques rest) (place.deque ∷ []) is.more);
         same = map-set_same (λ (p : PlaceView T Q). p.deque) now k w own (sym (ap (λ (p : PlaceView T Q). p.deque) here)) ∙ is.same;
-        problems = map-set_same (λ (p : PlaceView T Q). p.hand.problem) now k w own (sym (ap (λ (p : PlaceView T Q). p.hand.problem) here)) ∙ is.problems;
+        members = map-set_same (λ (p : PlaceView T Q). p.hand.members) now k w own (sym (ap (λ (p : PlaceView T Q). p.hand.members) here)) ∙ is.members;
         wholes = (let f : PlaceView T Q → ℕ = λ p. p.hand.whole in let s = sum_by-set f now k w own within in let a = ap f here in let i = is.wholes in
             omega (arith, s, a, i));
         shares = (
@@ -97,7 +97,7 @@ module _ {T Q : Type 0} where
     appended = sym (append-nil _);
     share = refl;
     whole = refl;
-    problem = refl;
+    members = refl;
     put = refl;
     took = sym (append-nil _);
     sound_rest = All-nil sound;
@@ -112,7 +112,7 @@ module _ {T Q : Type 0} where
     appended = longer ∙ (ap (λ l. l ++ x ∷ []) is.appended ∙ append_assoc before is.rest (x ∷ []));
     share = ap (λ (t : PlaceView T Q). t.hand.share) step ∙ is.share;
     whole = ap (λ (t : PlaceView T Q). t.hand.whole) step ∙ is.whole;
-    problem = ap (λ (t : PlaceView T Q). t.hand.problem) step ∙ is.problem;
+    members = ap (λ (t : PlaceView T Q). t.hand.members) step ∙ is.members;
     put = ap (λ (t : PlaceView T Q). t.hand.put) step ∙ is.put;
     took = ap (λ (t : PlaceView T Q). t.hand.took) step ∙ (ap (λ l. l ++ x ∷ []) is.took ∙ append_assoc first.hand.took is.rest (x ∷ []));
     sound_rest = All-push sound is.rest x is.sound_rest good;

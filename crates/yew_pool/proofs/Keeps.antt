@@ -26,9 +26,9 @@ All-right P [] ys a = a
 All-right P (x ∷ xs) ys a = All-right P xs ys (λ k d h. a (suc k) d (omega arith))
 
 module _ {T Q : Type 0} (sound : Q → T → Type 0) where
-  -- a pass with a share has been told the problem
+  -- a pass with a share has been told the members
   open_of : (items : List T) (views : List (Hand T Q)) (pass : ℕ) (v : Hand T Q) → 0 < v.share → Conserved sound items views → get_elem? views pass ≡ some v
-      → (problem : Q) × (whole : ℕ) × IsOpen sound problem whole items views
+      → (members : Q) × (whole : ℕ) × IsOpen sound members whole items views
   open_of items views pass v some_share holds at =
       ⊎_elim (λ (u : IsUnopened sound items views). absurd
       (shareless pass v some_share (subst (λ (l : List (Hand T Q)). get_elem? l pass ≡ some v) u.alone at))) (λ o. o) holds
@@ -37,20 +37,20 @@ module _ {T Q : Type 0} (sound : Q → T → Type 0) where
       shareless zero u h e = let s = ap (λ (w : Hand T Q). w.share) (some-injective unopened u e) in omega arith
       shareless (suc j) u h e = some-ne-none u (sym e)
 
-  fits_spent : (problem : Q) (whole : ℕ) → Fits {T = T} problem whole spent
-  fits_spent problem whole = record { told = refl; mine = λ (h : 0 < 0). absurd (omega arith); idle = λ _. (refl, refl) }
+  fits_spent : (members : Q) (whole : ℕ) → Fits {T = T} members whole spent
+  fits_spent members whole = record { told = refl; mine = λ (h : 0 < 0). absurd (omega arith); idle = λ _. (refl, refl) }
 
-  fits_started : (problem : Q) (whole : ℕ) → Fits {T = T} problem whole (started whole (Some problem))
-  fits_started problem whole = record { told = refl; mine = λ _. (refl, refl); idle = λ _. (refl, refl) }
+  fits_started : (members : Q) (whole : ℕ) → Fits {T = T} members whole (started whole (Some members))
+  fits_started members whole = record { told = refl; mine = λ _. (refl, refl); idle = λ _. (refl, refl) }
 
   -- one pass's view and the contents have changed
-  changed : (problem : Q) (whole : ℕ) (items after : List T) (views : List (Hand T Q)) (pass : ℕ) (v w : Hand T Q) → IsOpen sound problem whole items views
+  changed : (members : Q) (whole : ℕ) (items after : List T) (views : List (Hand T Q)) (pass : ℕ) (v w : Hand T Q) → IsOpen sound members whole items views
       → get_elem? views pass ≡ some v
-      → w.share ≡ v.share → Fits problem whole w
+      → w.share ≡ v.share → Fits members whole w
       → ((h : T → ℕ) → (sum_by h w.put + sum_by h v.took) + sum_by h items ≡ (sum_by h v.put + sum_by h w.took) + sum_by h after)
-      → All (sound problem) after → Conserved sound after (set views pass w)
-  changed problem whole items after views pass v w is at share fits moved sounds = inr (
-    problem,
+      → All (sound members) after → Conserved sound after (set views pass w)
+  changed members whole items after views pass v w is at share fits moved sounds = inr (
+    members,
     whole,
     record {
       shares = (let t = total_set (λ (u : Hand T Q). u.share) views pass v w at in let e = is.shares in omega (arith, t, e, share));
@@ -60,18 +60,18 @@ module _ {T Q : Type 0} (sound : Q → T → Type 0) where
           let e = is.bag h in let m = moved h in omega (arith, t, s, e, m)
           );
       sound_items = sounds;
-      each = λ j u e. ⊎_elim (λ (t : (j ≡ pass) × (w ≡ u)). subst (λ (k : Hand T Q). Fits problem whole k) t.1 fits)
+      each = λ j u e. ⊎_elim (λ (t : (j ≡ pass) × (w ≡ u)). subst (λ (k : Hand T Q). Fits members whole k) t.1 fits)
           (λ (t : (j ≢ pass) × (get_elem? views j ≡ some u)). is.each j u t.1) (at_set views pass j w u e);
     },
   )
 
-  some_injective : (a b : Q) → Some a ≡ Some b → a ≡ b
+  pub some_injective : (a b : Q) → Some a ≡ Some b → a ≡ b
   some_injective a b e = ap (λ (o : Option Q). elim o as (λ _. Q) [ Some x ↦ x | None ↦ a ]) e
 
   -- with the whole share, only this pass has put and taken
-  balances : (problem : Q) (whole : ℕ) (items : List T) (views : List (Hand T Q)) (pass : ℕ) (v : Hand T Q) → 0 < v.share
-      → IsOpen sound problem whole items views → get_elem? views pass ≡ some v → Balances v items
-  balances problem whole items views pass v some_share is at all h =
+  balances : (members : Q) (whole : ℕ) (items : List T) (views : List (Hand T Q)) (pass : ℕ) (v : Hand T Q) → 0 < v.share
+      → IsOpen sound members whole items views → get_elem? views pass ≡ some v → Balances v items
+  balances members whole items views pass v some_share is at all h =
       let mine = (is.each pass v at).mine some_share in
       let others : (j : ℕ) (u : Hand T Q) → j ≢ pass → get_elem? views j ≡ some u → (u.put ≡ []) × (u.took ≡ []) = λ j u ne e. (is.each j u e).idle (
       let t = two_parts (λ (u : Hand T Q). u.share) views pass j v u ne at e in let s = is.shares in let m = mine.1 in omega (arith, t, s, m, all)) in
@@ -79,8 +79,8 @@ module _ {T Q : Type 0} (sound : Q → T → Type 0) where
       let took = total_alone (λ (u : Hand T Q). sum_by h u.took) views pass v at (λ j u ne e. ap (λ (l : List T). sum_by h l) (others j u ne e).1) in
       let e = is.bag h in omega (arith, put, took, e)
 
-  pub pushes : (pass : ℕ) (v : Hand T Q) (x : T) → 0 < v.share → ((problem : Q) → v.problem ≡ Some problem → sound problem x)
-      → Pushes (Conserved sound) pass v (x ∷ []) (λ w. w ≡ hand v.fresh v.whole v.share v.problem (v.put ++ x ∷ []) v.took)
+  pub pushes : (pass : ℕ) (v : Hand T Q) (x : T) → 0 < v.share → ((members : Q) → v.members ≡ Some members → sound members x)
+      → Pushes (Conserved sound) pass v (x ∷ []) (λ w. w ≡ hand v.fresh v.whole v.share v.members (v.put ++ x ∷ []) v.took)
   pushes pass v x some_share good items views holds at =
       let o = open_of items views pass v some_share holds at in let is = o.2 in let fits = is.each pass v at in let mine = fits.mine some_share in (
         has_put v x,
@@ -94,7 +94,7 @@ module _ {T Q : Type 0} (sound : Q → T → Type 0) where
   pub takes : (pass : ℕ) (v : Hand T Q) → 0 < v.share → tasks.Takes (Conserved sound) pass v 1 (Takes sound v)
   takes pass v some_share xs items views any one holds at =
       let o = open_of (xs ++ items) views pass v some_share holds at in let is = o.2 in let fits = is.each pass v at in let mine = fits.mine some_share in
-      let w = hand v.fresh v.whole v.share v.problem v.put (v.took ++ xs) in (
+      let w = hand v.fresh v.whole v.share v.members v.put (v.took ++ xs) in (
         w,
         changed o.0 o.1 (xs ++ items) items views pass v w is at refl
             record { told = fits.told; mine = λ _. mine; idle = λ none. absurd (omega arith) }
@@ -102,7 +102,7 @@ module _ {T Q : Type 0} (sound : Q → T → Type 0) where
             (All-right (sound o.0) xs items is.sound_items),
         record {
           view = refl;
-          is_sound = λ problem told. subst (λ (p : Q). All (sound p) xs) (some_injective o.0 problem (sym mine.0 ∙ told))
+          is_sound = λ members told. subst (λ (p : Q). All (sound p) xs) (some_injective o.0 members (sym mine.0 ∙ told))
               (All-left (sound o.0) xs items is.sound_items);
           more = λ all h. (let e = balances o.0 o.1 (xs ++ items) views pass v some_share is at all h in let b = sum_by-append h xs items in
               let d = sum_by-append h v.took xs in omega (arith, e, b, d));
@@ -212,9 +212,9 @@ module _ {T Q : Type 0} (sound : Q → T → Type 0) where
         },
       )
 
-  -- the first pass is told the problem and the whole share
-  pub starts : (pass whole : ℕ) (problem : Q) → Forks (Conserved sound) pass unopened (started whole (Some problem)) spent
-  starts pass whole problem items views holds at =
+  -- the first pass is told the members and the whole share
+  pub starts : (pass whole : ℕ) (members : Q) → Forks (Conserved sound) pass unopened (started whole (Some members)) spent
+  starts pass whole members items views holds at =
       ⊎_elim (λ (u : IsUnopened sound items views). opened u.empty u.alone) (λ o. absurd (untold ((o.2.each pass unopened at).told))) holds
     where
       untold : true ≡ false → ⊥
@@ -224,26 +224,26 @@ module _ {T Q : Type 0} (sound : Q → T → Type 0) where
       first_alone zero e = refl
       first_alone (suc j) e = absurd (some-ne-none unopened (sym e))
 
-      each : (j : ℕ) (u : Hand T Q) → get_elem? (started whole (Some problem) ∷ spent ∷ []) j ≡ some u → Fits problem whole u
-      each zero u e = subst (λ (k : Hand T Q). Fits problem whole k) (some-injective (started whole (Some problem)) u e) (fits_started problem whole)
-      each (suc zero) u e = subst (λ (k : Hand T Q). Fits problem whole k) (some-injective spent u e) (fits_spent problem whole)
+      each : (j : ℕ) (u : Hand T Q) → get_elem? (started whole (Some members) ∷ spent ∷ []) j ≡ some u → Fits members whole u
+      each zero u e = subst (λ (k : Hand T Q). Fits members whole k) (some-injective (started whole (Some members)) u e) (fits_started members whole)
+      each (suc zero) u e = subst (λ (k : Hand T Q). Fits members whole k) (some-injective spent u e) (fits_spent members whole)
       each (suc (suc j)) u e = absurd (some-ne-none u (sym e))
 
-      made : IsOpen sound problem whole [] (started whole (Some problem) ∷ spent ∷ [])
-      made = record { shares = omega arith; bag = λ h. refl; sound_items = All-nil (sound problem); each = each }
+      made : IsOpen sound members whole [] (started whole (Some members) ∷ spent ∷ [])
+      made = record { shares = omega arith; bag = λ h. refl; sound_items = All-nil (sound members); each = each }
 
-      opened : items ≡ [] → views ≡ unopened ∷ [] → Conserved sound items (set views pass (started whole (Some problem)) ++ spent ∷ [])
+      opened : items ≡ [] → views ≡ unopened ∷ [] → Conserved sound items (set views pass (started whole (Some members)) ++ spent ∷ [])
       opened empty alone =
           let first : pass ≡ 0 = first_alone pass (subst (λ (l : List (Hand T Q)). get_elem? l pass ≡ some unopened) alone at) in
-          let P : List T → List (Hand T Q) → ℕ → Type 0 = λ xs l j. Conserved sound xs (set l j (started whole (Some problem)) ++ spent ∷ []) in
-          subst (λ (t : List T × List (Hand T Q) × ℕ). P t.0 t.1 t.2) (λ i. (sym empty i, sym alone i, sym first i)) (inr (problem, whole, made))
+          let P : List T → List (Hand T Q) → ℕ → Type 0 = λ xs l j. Conserved sound xs (set l j (started whole (Some members)) ++ spent ∷ []) in
+          subst (λ (t : List T × List (Hand T Q) × ℕ). P t.0 t.1 t.2) (λ i. (sym empty i, sym alone i, sym first i)) (inr (members, whole, made))
 
   pub opens : Conserved sound [] (unopened ∷ [])
   opens = inl record { empty = refl; alone = refl }
 
   -- the same, as a call picks them
-  pub starts_as : (pass whole whole' : ℕ) (problem : Q) (about : Option Q) (v : Hand T Q) → v ≡ unopened → about ≡ Some problem → whole' ≡ whole
+  pub starts_as : (pass whole whole' : ℕ) (members : Q) (about : Option Q) (v : Hand T Q) → v ≡ unopened → about ≡ Some members → whole' ≡ whole
       → Forks (Conserved sound) pass v (started whole' about) spent
-  starts_as pass whole whole' problem about v fresh is same =
+  starts_as pass whole whole' members about v fresh is same =
       subst (λ (t : Hand T Q × Option Q × ℕ). Forks (Conserved sound) pass t.0 (started t.2 t.1) spent) (λ i. (sym fresh i, sym is i, sym same i))
-      (starts pass whole problem)
+      (starts pass whole members)

@@ -16,22 +16,22 @@ module _ {T Q : Type 0} where
   whole_after pool all owns later rows apart merged = let a = apart.shares in let b = merged.shares in let c = merged.wholes in omega (arith, a, b, c)
 
   told_same : (about : Option Q) (owns later : List (PlaceView T Q))
-      → map (λ (o : PlaceView T Q). o.hand.problem) later ≡ map (λ (o : PlaceView T Q). o.hand.problem) owns
-      → All (λ (o : PlaceView T Q). o.hand.problem ≡ about) owns
-      → All (λ (o : PlaceView T Q). o.hand.problem ≡ about) later
+      → map (λ (o : PlaceView T Q). o.hand.members) later ≡ map (λ (o : PlaceView T Q). o.hand.members) owns
+      → All (λ (o : PlaceView T Q). o.hand.members ≡ about) owns
+      → All (λ (o : PlaceView T Q). o.hand.members ≡ about) later
   told_same about [] [] e a = a
   told_same about [] (o ∷ os) e a = absurd (let l = ap (λ (xs : List (Option Q)). length xs) e in omega arith)
   told_same about (p ∷ ps) [] e a = λ k d below. absurd (omega arith)
   told_same about (p ∷ ps) (o ∷ os) e a =
-      All-cons (λ (t : PlaceView T Q). t.hand.problem ≡ about) o os
-      (ap (λ (xs : List (Option Q)). get_or xs 0 p.hand.problem) e ∙ All-head (λ (t : PlaceView T Q). t.hand.problem ≡ about) p ps a)
-      (told_same about ps os (ap (λ (xs : List (Option Q)). drop 1 xs) e) (All-tail (λ (t : PlaceView T Q). t.hand.problem ≡ about) p ps a))
+      All-cons (λ (t : PlaceView T Q). t.hand.members ≡ about) o os
+      (ap (λ (xs : List (Option Q)). get_or xs 0 p.hand.members) e ∙ All-head (λ (t : PlaceView T Q). t.hand.members ≡ about) p ps a)
+      (told_same about ps os (ap (λ (xs : List (Option Q)). drop 1 xs) e) (All-tail (λ (t : PlaceView T Q). t.hand.members ≡ about) p ps a))
 
   module _ (sound : Q → T → Type 0) (pool : PoolId) (count at : ℕ) (all now : List (PassView T Q)) (owns later : List (PlaceView T Q))
       (rows : List (List (PlaceView T Q))) (before after : List T) where
     told_all : AreOrdering pool count all now at → IsApart pool now owns rows → IsMerging owns rows [] later → (about : Option Q)
-        → All (λ (p : PassView T Q). p.problem ≡ about) all → All (λ (o : PlaceView T Q). o.hand.problem ≡ about) later
-    told_all ordered apart merged about a = told_same about owns later merged.problems (apart.told about (ordered.told about a))
+        → All (λ (p : PassView T Q). p.members ≡ about) all → All (λ (o : PlaceView T Q). o.hand.members ≡ about) later
+    told_all ordered apart merged about a = told_same about owns later merged.members (apart.told about (ordered.told about a))
 
     weighed_put : AreOrdering pool count all now at → IsApart pool now owns rows → IsMerging owns rows [] later → (h : T → ℕ)
         → weigh_put h later ≡ sum_by h (all_put all)
@@ -55,7 +55,7 @@ module _ {T Q : Type 0} where
             let a = weighed_put ordered apart merged h in let b = weighed_took ordered apart merged h in let c = is.bag h in
             let d = sum_by-append h (all_took all) is.tasks in omega (arith, a, b, c, d));
       };
-      sound_rest = λ problem a. is.sound_tasks problem (told_all ordered apart merged (Some problem) a);
+      sound_rest = λ members a. is.sound_tasks members (told_all ordered apart merged (Some members) a);
     }
 
     pub left_part : AreOrdering pool count all now at → IsApart pool now owns rows → IsMerging owns rows [] later → IsPartEmptied sound later before after
@@ -68,7 +68,7 @@ module _ {T Q : Type 0} where
             let a = weighed_put ordered apart merged h in let b = weighed_took ordered apart merged h in let c = is.part h in
             let d = sum_by-append h (all_took all) is.tasks in omega (arith, a, b, c, d));
       };
-      sound_rest = λ problem a. is.sound_tasks problem (told_all ordered apart merged (Some problem) a);
+      sound_rest = λ members a. is.sound_tasks members (told_all ordered apart merged (Some members) a);
     }
 
   -- there are no passes
@@ -77,7 +77,7 @@ module _ {T Q : Type 0} where
     rest = [];
     appended = sym (append-nil before);
     bag = record { weighs = λ h. refl };
-    sound_rest = λ problem a. All-nil (sound problem);
+    sound_rest = λ members a. All-nil (sound members);
   }
 
 pub on_ok : {X E A B : Type 0} (r : Result X E) → (A → B) → OnOk r A → OnOk r B

@@ -48,7 +48,7 @@ module _ {T Q : Type 0} where
           };
           number = number;
           share = 1;
-          problem = own.hand.problem;
+          members = own.hand.members;
           put = own.hand.put;
           took = own.hand.took ++ same_taken places at (counted p) (sym (ap (λ (t : PlaceView T Q). t.hand.took) before)) i;
           found_empty = map found later;
@@ -124,9 +124,9 @@ module _ {T Q : Type 0} where
     long = b.long ∙ a.long;
   }
 
-  pub sound_after : (sound : Q → T → Type 0) (first end : ℕ) (x y : PassView T Q) (task : T) → HasLooked first end x y → IsSoundFor sound y.problem task
-      → IsSoundFor sound x.problem task
-  sound_after sound first end x y task a good = λ problem about. good problem (ap (λ (t : PassView T Q). t.problem) a.same ∙ about)
+  pub sound_after : (sound : Q → T → Type 0) (first end : ℕ) (x y : PassView T Q) (task : T) → HasLooked first end x y → IsSoundFor sound y.members task
+      → IsSoundFor sound x.members task
+  sound_after sound first end x y task a good = λ members about. good members (ap (λ (t : PassView T Q). t.members) a.same ∙ about)
 
   pub pool_after : (first end : ℕ) (x y : PassView T Q) → HasLooked first end x y → (y.pool ≡ x.pool) × (y.number ≡ x.number)
   pool_after first end x y a = (ap (λ (t : PassView T Q). t.pool) a.same, ap (λ (t : PassView T Q). t.number) a.same)
@@ -182,6 +182,6 @@ module _ {T Q : Type 0} where
           here k less (yes same) = at_own k same
           here k less (no other) = at_other k less other
 
-pub on_empty : {P T : Type 0} {A B : Type 0} (r : Take P T) → (A → B) → OnEmpty r A → OnEmpty r B
+pub on_empty : {N : Type 0} {A B : Type 0} (r : Take N) → (A → B) → OnEmpty r A → OnEmpty r B
 on_empty (Taken task) f a = tt
 on_empty Empty f a = f a

@@ -105,7 +105,7 @@ module _ {T Q : Type 0} where
               let e = is.bag.weighs h in omega (arith, a, b, c, d, e));
         };
         pools = both (λ (p : PassView T Q). p.pool ≡ pool) is.pools;
-        told = λ about a. both (λ (p : PassView T Q). p.problem ≡ about) (is.told about a);
+        told = λ about a. both (λ (p : PassView T Q). p.members ≡ about) (is.told about a);
         placed = λ k d less long. (
             let ki : k ≢ i = omega arith in
             let kj : k ≢ j = ahead k less in

@@ -22,20 +22,20 @@ module _ {T Q : Type 0} where
   found_none [] none = refl
   found_none (p ∷ ps) none = λ i. none 0 p (omega arith) i ∷ found_none ps (λ k d below. none (suc k) d (omega arith)) i
 
-  place_took : (problem : Option Q) (whole number at : ℕ) (ids : List DequeId) (place : PlaceView T Q) → IsNewPlace problem whole number at ids place
+  place_took : (members : Option Q) (whole number at : ℕ) (ids : List DequeId) (place : PlaceView T Q) → IsNewPlace members whole number at ids place
       → place.hand.took ≡ []
-  place_took problem whole number at ids place is = by_case (ℕ_discrete at number)
+  place_took members whole number at ids place is = by_case (ℕ_discrete at number)
     where
       by_case : Dec (at ≡ number) → place.hand.took ≡ []
       by_case (yes same) = ap (λ (v : Hand T Q). v.took) (is.idle same)
       by_case (no other) = ap (λ (v : Hand T Q). v.took) (is.other other)
 
-  placed : (problem about : Option Q) (whole number at : ℕ) (ids : List DequeId) (place : PlaceView T Q) → IsNewPlace problem whole number at ids place
-      → about ≡ problem → IsPlaced about number at place
-  placed problem about whole number at ids place is same = record {
+  placed : (members about : Option Q) (whole number at : ℕ) (ids : List DequeId) (place : PlaceView T Q) → IsNewPlace members whole number at ids place
+      → about ≡ members → IsPlaced about number at place
+  placed members about whole number at ids place is same = record {
     puts_nothing = by_case (ℕ_discrete at number);
     idle = λ e. (ap (λ (v : Hand T Q). v.share) (is.idle e), ap (λ (v : Hand T Q). v.took) (is.idle e));
-    other = λ ne. (ap (λ (v : Hand T Q). v.share) (is.other ne), ap (λ (v : Hand T Q). v.problem) (is.other ne) ∙ sym same);
+    other = λ ne. (ap (λ (v : Hand T Q). v.share) (is.other ne), ap (λ (v : Hand T Q). v.members) (is.other ne) ∙ sym same);
   }
     where
       by_case : Dec (at ≡ number) → place.hand.put ≡ []
@@ -43,15 +43,15 @@ module _ {T Q : Type 0} where
       by_case (no ne) = ap (λ (v : Hand T Q). v.put) (is.other ne)
 
   -- an owner and a row are a new pass
-  ready_at : (problem : Option Q) (whole number count : ℕ) (ids : List DequeId) (own : PlaceView T Q) (row : List (PlaceView T Q))
-      → IsOwner problem whole count number own → IsRow problem whole number ids row
+  ready_at : (members : Option Q) (whole number count : ℕ) (ids : List DequeId) (own : PlaceView T Q) (row : List (PlaceView T Q))
+      → IsOwner members whole count number own → IsRow members whole number ids row
       → length row ≡ count → length ids ≡ count → number < count → whole ≡ whole_among count → get_or ids number own.deque ≡ own.deque
-      → IsReady problem number ids own row
-  ready_at problem whole number count ids own row o r long ids_long within all id =
+      → IsReady members number ids own row
+  ready_at members whole number count ids own row o r long ids_long within all id =
       let share : own.hand.share ≡ count = (let p = o.past within in omega (arith, p, all)) in
       let whole_is : own.hand.whole ≡ whole = ap (λ (v : Hand T Q). v.whole) o.hand in
-      let about : own.hand.problem ≡ problem = ap (λ (v : Hand T Q). v.problem) o.hand in
-      let took : taken_at row ≡ [] = took_none row (λ k d below. place_took problem whole number k ids (get_or row k d) (r.each k d below)) in
+      let about : own.hand.members ≡ members = ap (λ (v : Hand T Q). v.members) o.hand in
+      let took : taken_at row ≡ [] = took_none row (λ k d below. place_took members whole number k ids (get_or row k d) (r.each k d below)) in
       let found : map (λ (p : PlaceView T Q). p.found_empty) row ≡ replicate (length ids) 0 =
       found_none row (λ k d below. (r.each k d below).found) ∙ ap (λ n. replicate n 0) (long ∙ sym ids_long) in record {
         seated = record {
@@ -60,13 +60,13 @@ module _ {T Q : Type 0} where
           share = share ∙ sym long;
           whole = omega (arith, whole_is, all, long);
           shares = (let s = r.past (omega arith) in omega (arith, s, share, whole_is, all, long));
-          each = λ at d below. placed problem own.hand.problem whole number at ids (get_or row at d) (r.each at d below) about;
+          each = λ at d below. placed members own.hand.members whole number at ids (get_or row at d) (r.each at d below) about;
         };
         new = λ i. record {
           pool = record { deques = row_ids i };
           number = number;
           share = 1;
-          problem = about i;
+          members = about i;
           put = ap (λ (v : Hand T Q). v.put) o.hand i;
           took = nothing (ap (λ (v : Hand T Q). v.took) o.hand) took i;
           found_empty = found i;
@@ -88,23 +88,23 @@ module _ {T Q : Type 0} where
               id_at (map (λ (p : PlaceView T Q). p.deque) row) row k own own.deque refl less
               ∙ ((r.each k own less).deque ∙ get_or_default ids k _ own.deque (omega arith))
 
-  pub rows_end : (problem : Option Q) (whole number count : ℕ) (ids : List DequeId) (owns : List (PlaceView T Q)) (rows : List (List (PlaceView T Q)))
-      → IsRowing problem whole number ids owns rows → whole ≡ whole_among count → count ≡ length ids → number ≡ count
-      → AreReady problem ids owns rows
-  rows_end problem whole number count ids owns rows is all many end = record {
+  pub rows_end : (members : Option Q) (whole number count : ℕ) (ids : List DequeId) (owns : List (PlaceView T Q)) (rows : List (List (PlaceView T Q)))
+      → IsRowing members whole number ids owns rows → whole ≡ whole_among count → count ≡ length ids → number ≡ count
+      → AreReady members ids owns rows
+  rows_end members whole number count ids owns rows is all many end = record {
     long = is.long ∙ (end ∙ (many ∙ sym is.many));
     each = λ k own row below. (
         let m = is.many in let l = is.long in
         let less : k < length rows = omega (arith, below, m, l, end, many) in
-        ready_at problem whole k number ids (get_or owns k own) (get_or rows k row) (is.owners.ahead k own (omega arith) below) (is.made.each k row less)
+        ready_at members whole k number ids (get_or owns k own) (get_or rows k row) (is.owners.ahead k own (omega arith) below) (is.made.each k row less)
         (is.made.long k row less ∙ (sym many ∙ sym end)) (sym many ∙ sym end)
         (omega (arith, below, m, end, many)) (all ∙ ap whole_among (sym end)) (id_at ids owns k own _ is.owners.ids_are below)
         );
   }
 
-  pub seats_begin : (problem : Option Q) (ids : List DequeId) (owns : List (PlaceView T Q)) (rows : List (List (PlaceView T Q)))
-      → AreReady problem ids owns rows → ids ≡ deques owns → IsSeating problem ids owns rows []
-  seats_begin problem ids owns rows are same = record {
+  pub seats_begin : (members : Option Q) (ids : List DequeId) (owns : List (PlaceView T Q)) (rows : List (List (PlaceView T Q)))
+      → AreReady members ids owns rows → ids ≡ deques owns → IsSeating members ids owns rows []
+  seats_begin members ids owns rows are same = record {
     ready = are;
     made = record {
       long = (let l = ap (λ (d : List DequeId). length d) same in let m = length-map owns (λ (p : PlaceView T Q). p.deque) in
@@ -114,10 +114,10 @@ module _ {T Q : Type 0} where
   }
 
   -- the last owner and the last row
-  pub seats_at : (problem : Option Q) (ids : List DequeId) (more rest : List (PlaceView T Q)) (more_rows rest_rows : List (List (PlaceView T Q)))
-      (passes : List (PassView T Q)) (own : PlaceView T Q) (row : List (PlaceView T Q)) → IsSeating problem ids more more_rows passes
-      → more ≡ rest ++ own ∷ [] → more_rows ≡ rest_rows ++ row ∷ [] → IsReady problem (length rest) ids own row
-  seats_at problem ids more rest more_rows rest_rows passes own row is e f =
+  pub seats_at : (members : Option Q) (ids : List DequeId) (more rest : List (PlaceView T Q)) (more_rows rest_rows : List (List (PlaceView T Q)))
+      (passes : List (PassView T Q)) (own : PlaceView T Q) (row : List (PlaceView T Q)) → IsSeating members ids more more_rows passes
+      → more ≡ rest ++ own ∷ [] → more_rows ≡ rest_rows ++ row ∷ [] → IsReady members (length rest) ids own row
+  seats_at members ids more rest more_rows rest_rows passes own row is e f =
       let long : length rest_rows ≡ length rest = (
       let l = is.ready.long in let a = ap (λ (l : List (PlaceView T Q)). length l) e in let b = ap (λ (l : List (List (PlaceView T Q))). length l) f in
       omega (arith, l, a, b, length-append rest (own ∷ []), length-append rest_rows (row ∷ []))
@@ -126,25 +126,25 @@ module _ {T Q : Type 0} where
       let row_is : get_or more_rows (length rest) row ≡ row =
       ap (λ (l : List (List (PlaceView T Q))). get_or l (length rest) row) f
       ∙ (ap (λ j. get_or (rest_rows ++ row ∷ []) j row) (sym long) ∙ get_or-append_seam rest_rows row [] row) in
-      subst (λ (t : PlaceView T Q × List (PlaceView T Q)). IsReady problem (length rest) ids t.0 t.1) (λ i. (own_is i, row_is i))
+      subst (λ (t : PlaceView T Q × List (PlaceView T Q)). IsReady members (length rest) ids t.0 t.1) (λ i. (own_is i, row_is i))
       (is.ready.each (length rest) own row (let a = ap (λ (l : List (PlaceView T Q)). length l) e in omega (arith, a, length-append rest (own ∷ []))))
 
-  pub seats_more : (problem : Option Q) (ids : List DequeId) (more rest : List (PlaceView T Q)) (more_rows rest_rows : List (List (PlaceView T Q)))
+  pub seats_more : (members : Option Q) (ids : List DequeId) (more rest : List (PlaceView T Q)) (more_rows rest_rows : List (List (PlaceView T Q)))
       (passes later : List (PassView T Q)) (own : PlaceView T Q) (row : List (PlaceView T Q)) (pass : PassView T Q) (number : ℕ)
-      → IsSeating problem ids more more_rows passes → more ≡ rest ++ own ∷ [] → more_rows ≡ rest_rows ++ row ∷ [] → number ≡ length rest
-      → pass ≡ pass_view number own row → later ≡ insert passes 0 pass → IsSeating problem ids rest rest_rows later
-  seats_more problem ids more rest more_rows rest_rows passes later own row pass number is e f number_is pass_is later_is =
+      → IsSeating members ids more more_rows passes → more ≡ rest ++ own ∷ [] → more_rows ≡ rest_rows ++ row ∷ [] → number ≡ length rest
+      → pass ≡ pass_view number own row → later ≡ insert passes 0 pass → IsSeating members ids rest rest_rows later
+  seats_more members ids more rest more_rows rest_rows passes later own row pass number is e f number_is pass_is later_is =
       let longer : length more ≡ length rest + 1 = ap (λ (l : List (PlaceView T Q)). length l) e ∙ length-append rest (own ∷ []) in
       let longer_rows : length more_rows ≡ length rest_rows + 1 = ap (λ (l : List (List (PlaceView T Q))). length l) f ∙ length-append rest_rows (row ∷ []) in
-      let at = seats_at problem ids more rest more_rows rest_rows passes own row is e f in
-      let new : pass ≡ new_pass (record { deques = ids }) problem (length rest) = pass_is ∙ (ap (λ n. pass_view n own row) number_is ∙ at.new) in record {
+      let at = seats_at members ids more rest more_rows rest_rows passes own row is e f in
+      let new : pass ≡ new_pass (record { deques = ids }) members (length rest) = pass_is ∙ (ap (λ n. pass_view n own row) number_is ∙ at.new) in record {
         ready = record {
           long = (let l = is.ready.long in omega (arith, l, longer, longer_rows));
           each = λ k o r below.
-              subst (λ (t : PlaceView T Q × List (PlaceView T Q)). IsReady problem k ids t.0 t.1)
+              subst (λ (t : PlaceView T Q × List (PlaceView T Q)). IsReady members k ids t.0 t.1)
               (λ i. (front_own k o below i, front_row k r below longer longer_rows i)) (is.ready.each k o r (omega (arith, below, longer)));
         };
-        made = subst (λ (l : List (PassView T Q)). AreMade problem ids (length rest) l) (sym later_is) record {
+        made = subst (λ (l : List (PassView T Q)). AreMade members ids (length rest) l) (sym later_is) record {
           long = (let l = is.made.long in omega (arith, l, longer));
           each = λ at d below. each at d below new longer;
         };
@@ -159,9 +159,9 @@ module _ {T Q : Type 0} where
           ap (λ (l : List (List (PlaceView T Q))). get_or l k r) f
           ∙ get_or_append_left rest_rows (row ∷ []) r k (let l = is.ready.long in omega (arith, l, longer, longer_rows, below))
 
-      each : (at : ℕ) (d : PassView T Q) → at < length (pass ∷ passes) → pass ≡ new_pass (record { deques = ids }) problem (length rest)
-          → length more ≡ length rest + 1 → get_or (pass ∷ passes) at d ≡ new_pass (record { deques = ids }) problem (length rest + at)
-      each zero d below new longer = new ∙ ap (λ n. new_pass (record { deques = ids }) problem n) (let e : length rest ≡ length rest + 0 = omega arith in e)
+      each : (at : ℕ) (d : PassView T Q) → at < length (pass ∷ passes) → pass ≡ new_pass (record { deques = ids }) members (length rest)
+          → length more ≡ length rest + 1 → get_or (pass ∷ passes) at d ≡ new_pass (record { deques = ids }) members (length rest + at)
+      each zero d below new longer = new ∙ ap (λ n. new_pass (record { deques = ids }) members n) (let e : length rest ≡ length rest + 0 = omega arith in e)
       each (suc at) d below new longer =
           is.made.each at d (omega arith)
-          ∙ ap (λ n. new_pass (record { deques = ids }) problem n) (let e : length more + at ≡ length rest + suc at = omega (arith, longer) in e)
+          ∙ ap (λ n. new_pass (record { deques = ids }) members n) (let e : length more + at ≡ length rest + suc at = omega (arith, longer) in e)

@@ -44,13 +44,13 @@ module _ {T Q : Type 0} where
   -- the owner has popped a task, and its place is as before
   pub has_popped : (sound : Q → T → Type 0) (number : ℕ) (own new p w : PlaceView T Q) (places : List (PlaceView T Q)) (pass : PassView T Q) (r : Option T)
       → pass_view number own places ≡ pass → get_or places number p ≡ p
-      → IfSome r (λ x. (new ≡ taken own x) × (w ≡ p)) → IfSome r (λ x. IsSoundFor sound own.hand.problem x)
-      → IfSome r (λ x. HasTaken pass x (pass_view number new (set places number w)) × IsSoundFor sound pass.problem x)
+      → IfSome r (λ x. (new ≡ taken own x) × (w ≡ p)) → IfSome r (λ x. IsSoundFor sound own.hand.members x)
+      → IfSome r (λ x. HasTaken pass x (pass_view number new (set places number w)) × IsSoundFor sound pass.members x)
   has_popped sound number own new p w places pass None view here step good = tt
   has_popped sound number own new p w places pass (Some x) view here step good = (
     popped number own new places (set places number w) pass x view step.0
         (ap (λ (t : PlaceView T Q). set places number t) (step.1 ∙ sym here) ∙ set-get_or places number p),
-    λ problem about. good problem (ap (λ (t : PassView T Q). t.problem) view ∙ about),
+    λ members about. good members (ap (λ (t : PassView T Q). t.members) view ∙ about),
   )
 
   alone_idle : (f : PlaceView T Q → ℕ) (places : List (PlaceView T Q)) (d : PlaceView T Q) → length places ≡ 1 → f (get_or places 0 d) ≡ 0 → sum_by f places ≡ 0
@@ -117,9 +117,9 @@ module _ {T Q : Type 0} where
   -- a place with a share has a task more, or is as it was
   seated_set : (number at : ℕ) (own : PlaceView T Q) (places : List (PlaceView T Q)) (p w : PlaceView T Q) → AreSeated number own places
       → at < length places → at ≢ number → get_or places at p ≡ p
-      → w.deque ≡ p.deque → w.hand.share ≡ p.hand.share → w.hand.problem ≡ p.hand.problem → w.hand.put ≡ p.hand.put → AreSeated number own (set places at w)
-  seated_set number at own places p w are within other is deque share problem put =
-      let old = subst (λ (t : PlaceView T Q). IsPlaced own.hand.problem number at t) is (are.each at p within) in
+      → w.deque ≡ p.deque → w.hand.share ≡ p.hand.share → w.hand.members ≡ p.hand.members → w.hand.put ≡ p.hand.put → AreSeated number own (set places at w)
+  seated_set number at own places p w are within other is deque share members put =
+      let old = subst (λ (t : PlaceView T Q). IsPlaced own.hand.members number at t) is (are.each at p within) in
       let long = length-set places at w in record {
         within = (let a = are.within in omega (arith, a, long));
         here = λ d. ap (λ (t : PlaceView T Q). t.deque) (get_or-set_other places at number w d (λ e. other (sym e))) ∙ are.here d;
@@ -130,23 +130,23 @@ module _ {T Q : Type 0} where
         each = λ j d below. seat_at j d (omega (arith, below, long)) (ℕ_discrete j at) old;
       }
     where
-      seat_at : (j : ℕ) (d : PlaceView T Q) → j < length places → Dec (j ≡ at) → IsPlaced own.hand.problem number at p
-          → IsPlaced own.hand.problem number j (get_or (set places at w) j d)
+      seat_at : (j : ℕ) (d : PlaceView T Q) → j < length places → Dec (j ≡ at) → IsPlaced own.hand.members number at p
+          → IsPlaced own.hand.members number j (get_or (set places at w) j d)
       seat_at j d below (yes same) old =
-          subst (λ (t : ℕ × PlaceView T Q). IsPlaced own.hand.problem number t.0 t.1)
+          subst (λ (t : ℕ × PlaceView T Q). IsPlaced own.hand.members number t.0 t.1)
           (λ i. (sym same i, sym (ap (λ k. get_or (set places at w) k d) same ∙ get_or-set_same places at w d within) i)) record {
             puts_nothing = put ∙ old.puts_nothing;
             idle = λ e. absurd (other e);
-            other = λ ne. (share ∙ (old.other ne).0, problem ∙ (old.other ne).1);
+            other = λ ne. (share ∙ (old.other ne).0, members ∙ (old.other ne).1);
           }
       seat_at j d below (no ne) old =
-          subst (λ (t : PlaceView T Q). IsPlaced own.hand.problem number j t) (sym (get_or-set_other places at j w d ne)) (are.each j d below)
+          subst (λ (t : PlaceView T Q). IsPlaced own.hand.members number j t) (sym (get_or-set_other places at j w d ne)) (are.each j d below)
 
-  placed_alike : (problem : Option Q) (number at : ℕ) (p w : PlaceView T Q) → w.hand ≡ p.hand → IsPlaced problem number at p → IsPlaced problem number at w
-  placed_alike problem number at p w hand is = record {
+  placed_alike : (members : Option Q) (number at : ℕ) (p w : PlaceView T Q) → w.hand ≡ p.hand → IsPlaced members number at p → IsPlaced members number at w
+  placed_alike members number at p w hand is = record {
     puts_nothing = ap (λ (v : Hand T Q). v.put) hand ∙ is.puts_nothing;
     idle = λ e. (ap (λ (v : Hand T Q). v.share) hand ∙ (is.idle e).0, ap (λ (v : Hand T Q). v.took) hand ∙ (is.idle e).1);
-    other = λ ne. (ap (λ (v : Hand T Q). v.share) hand ∙ (is.other ne).0, ap (λ (v : Hand T Q). v.problem) hand ∙ (is.other ne).1);
+    other = λ ne. (ap (λ (v : Hand T Q). v.share) hand ∙ (is.other ne).0, ap (λ (v : Hand T Q). v.members) hand ∙ (is.other ne).1);
   }
 
   -- a place knows what it knew before
@@ -165,7 +165,7 @@ module _ {T Q : Type 0} where
             );
         each = λ j d below. (
             let less : j < length places = omega (arith, below, long) in
-            placed_alike own.hand.problem number j (get_or places j d) (get_or (set places at w) j d) (alike j d less (ℕ_discrete j at)).1 (are.each j d less)
+            placed_alike own.hand.members number j (get_or places j d) (get_or (set places at w) j d) (alike j d less (ℕ_discrete j at)).1 (are.each j d less)
             );
       }
     where
@@ -182,14 +182,14 @@ module _ {T Q : Type 0} where
   -- an owner with the same share
   seated_owner : (number : ℕ) (own new : PlaceView T Q) (places : List (PlaceView T Q)) → AreSeated number own places → new.deque ≡ own.deque
       → new.hand.share ≡ own.hand.share → new.hand.whole ≡ own.hand.whole
-      → new.hand.problem ≡ own.hand.problem → AreSeated number new places
-  seated_owner number own new places are deque share whole problem = record {
+      → new.hand.members ≡ own.hand.members → AreSeated number new places
+  seated_owner number own new places are deque share whole members = record {
     within = are.within;
     here = λ d. are.here d ∙ sym deque;
     share = share ∙ are.share;
     whole = (let w = are.whole in omega (arith, w, whole));
     shares = (let s = are.shares in omega (arith, s, share, whole));
-    each = λ at d below. subst (λ (p : Option Q). IsPlaced p number at (get_or places at d)) (sym problem) (are.each at d below);
+    each = λ at d below. subst (λ (p : Option Q). IsPlaced p number at (get_or places at d)) (sym members) (are.each at d below);
   }
 
   pub seated : (number at : ℕ) (own : PlaceView T Q) (places : List (PlaceView T Q)) (p w : PlaceView T Q) (r : Option T) → AreSeated number own places
@@ -199,7 +199,7 @@ module _ {T Q : Type 0} where
       seated_alike number at own places p w are within is (ap (λ (t : PlaceView T Q). t.deque) none) (ap (λ (t : PlaceView T Q). t.hand) none)
   seated number at own places p w (Some x) are within other is some none =
       seated_set number at own places p w are within other is (ap (λ (t : PlaceView T Q). t.deque) some) (ap (λ (t : PlaceView T Q). t.hand.share) some)
-      (ap (λ (t : PlaceView T Q). t.hand.problem) some) (ap (λ (t : PlaceView T Q). t.hand.put) some)
+      (ap (λ (t : PlaceView T Q). t.hand.members) some) (ap (λ (t : PlaceView T Q). t.hand.put) some)
 
   pub seated_pop : (number : ℕ) (own new p w : PlaceView T Q) (places : List (PlaceView T Q)) (r : Option T) → AreSeated number own places
       → get_or places number p ≡ p
@@ -209,12 +209,12 @@ module _ {T Q : Type 0} where
       seated_owner number own new (set places number w)
       (seated_alike number number own places p w are are.within is (ap (λ (t : PlaceView T Q). t.deque) counts) (ap (λ (t : PlaceView T Q). t.hand) counts))
       (ap (λ (t : PlaceView T Q). t.deque) none.0) (ap (λ (t : PlaceView T Q). t.hand.share) none.0) (ap (λ (t : PlaceView T Q). t.hand.whole) none.0)
-      (ap (λ (t : PlaceView T Q). t.hand.problem) none.0)
+      (ap (λ (t : PlaceView T Q). t.hand.members) none.0)
   seated_pop number own new p w places (Some x) are is some none counts =
       seated_owner number own new (set places number w)
       (seated_alike number number own places p w are are.within is (ap (λ (t : PlaceView T Q). t.deque) some.1) (ap (λ (t : PlaceView T Q). t.hand) some.1))
       (ap (λ (t : PlaceView T Q). t.deque) some.0) (ap (λ (t : PlaceView T Q). t.hand.share) some.0) (ap (λ (t : PlaceView T Q). t.hand.whole) some.0)
-      (ap (λ (t : PlaceView T Q). t.hand.problem) some.0)
+      (ap (λ (t : PlaceView T Q). t.hand.members) some.0)
 
   -- one of the places has changed, and the room is the same
   pub is_seated : (number : ℕ) (own : PlaceView T Q) (places : List (PlaceView T Q)) (room : ℕ) → IsSeated number own places room
@@ -231,7 +231,7 @@ module _ {T Q : Type 0} where
       pool = record { deques = l };
       number = number;
       share = 1;
-      problem = own.hand.problem;
+      members = own.hand.members;
       put = own.hand.put;
       took = own.hand.took ++ taken_at (set places at (taken p x));
       found_empty = map (λ (t : PlaceView T Q). t.found_empty) (set places at (taken p x));
@@ -254,14 +254,14 @@ module _ {T Q : Type 0} where
 
   pub has_stolen : (sound : Q → T → Type 0) (number at : ℕ) (own : PlaceView T Q) (places : List (PlaceView T Q)) (p w : PlaceView T Q)
       (pass : PassView T Q) (r : Option T) → pass_view number own places ≡ pass → AreSeated number own places
-      → at < length places → at ≢ number → get_or places at p ≡ p → IfSome r (λ x. w ≡ taken p x) → IfSome r (λ x. IsSoundFor sound p.hand.problem x)
-      → IfSome r (λ x. HasTaken pass x (pass_view number own (set places at w)) × IsSoundFor sound pass.problem x)
+      → at < length places → at ≢ number → get_or places at p ≡ p → IfSome r (λ x. w ≡ taken p x) → IfSome r (λ x. IsSoundFor sound p.hand.members x)
+      → IfSome r (λ x. HasTaken pass x (pass_view number own (set places at w)) × IsSoundFor sound pass.members x)
   has_stolen sound number at own places p w pass None view are within other is step good = tt
   has_stolen sound number at own places p w pass (Some x) view are within other is step good =
-      let old = subst (λ (t : PlaceView T Q). IsPlaced own.hand.problem number at t) is (are.each at p within) in (
+      let old = subst (λ (t : PlaceView T Q). IsPlaced own.hand.members number at t) is (are.each at p within) in (
         subst (λ (t : PassView T Q × PlaceView T Q). HasTaken t.0 x (pass_view number own (set places at t.1))) (λ i. (view i, sym step i))
             (stole number at own places p x within is),
-        λ problem about. good problem ((old.other other).1 ∙ (ap (λ (t : PassView T Q). t.problem) view ∙ about)),
+        λ members about. good members ((old.other other).1 ∙ (ap (λ (t : PassView T Q). t.members) view ∙ about)),
       )
 
   -- the pass has as many places as its pool has deques

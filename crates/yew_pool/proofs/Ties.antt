@@ -10,23 +10,23 @@ use Rattle.yew_pool.specs.Places.{DequeId, PlaceView}
 use Rattle.yew_pool.specs.Tasks.{IsSoundFor}
 
 module _ {T Q : Type 0} (sound : Q → T → Type 0) where
-  -- the problem of a place is that of its hand
-  pub problem_is : (deque : DequeId) (n : ℕ) (v : Hand T Q) (place : PlaceView T Q) → record { deque = deque; hand = v; found_empty = n } ≡ place
-      → v.problem ≡ place.hand.problem
-  problem_is deque n v place view = ap (λ (t : PlaceView T Q). t.hand.problem) view
+  -- what a place knows is what its hand knows
+  pub members_are : (deque : DequeId) (n : ℕ) (v : Hand T Q) (place : PlaceView T Q) → record { deque = deque; hand = v; found_empty = n } ≡ place
+      → v.members ≡ place.hand.members
+  members_are deque n v place view = ap (λ (t : PlaceView T Q). t.hand.members) view
 
   pub sound_for : (deque : DequeId) (n : ℕ) (v : Hand T Q) (place : PlaceView T Q) (x : T) → record { deque = deque; hand = v; found_empty = n } ≡ place
-      → IsSoundFor sound place.hand.problem x → IsSoundFor sound v.problem x
-  sound_for deque n v place x view good = λ problem told. good problem (sym (problem_is deque n v place view) ∙ told)
+      → IsSoundFor sound place.hand.members x → IsSoundFor sound v.members x
+  sound_for deque n v place x view good = λ members told. good members (sym (members_are deque n v place view) ∙ told)
 
-  -- a task that was taken is sound for the place's problem
+  -- a task that was taken is sound by the members that the place knows
   pub one_sound : (deque : DequeId) (n : ℕ) (v w : Hand T Q) (place : PlaceView T Q) (x : T) → record { deque = deque; hand = v; found_empty = n } ≡ place
-      → Takes sound v (x ∷ []) w → IsSoundFor sound place.hand.problem x
-  one_sound deque n v w place x view told = λ problem about. told.is_sound problem (problem_is deque n v place view ∙ about) 0 x (omega arith)
+      → Takes sound v (x ∷ []) w → IsSoundFor sound place.hand.members x
+  one_sound deque n v w place x view told = λ members about. told.is_sound members (members_are deque n v place view ∙ about) 0 x (omega arith)
 
   pub taken_sound : (deque : DequeId) (n : ℕ) (v w : Hand T Q) (place : PlaceView T Q) (none : Type 0) (r : Option T)
       → record { deque = deque; hand = v; found_empty = n } ≡ place → MatchOption r none (λ x. Takes sound v (x ∷ []) w)
-      → IfSome r (λ x. IsSoundFor sound place.hand.problem x)
+      → IfSome r (λ x. IsSoundFor sound place.hand.members x)
   taken_sound deque n v w place none None view told = tt
   taken_sound deque n v w place none (Some x) view told = one_sound deque n v w place x view told
 
@@ -36,7 +36,7 @@ module _ {T Q : Type 0} (sound : Q → T → Type 0) where
       → MatchSteal r ((w ≡ v) × Unit {0}) ((w ≡ v) × retry) (λ x. Takes sound v (x ∷ []) w)
       → MatchSteal r (record { deque = deque; hand = w; found_empty = n } ≡ place) (record { deque = deque; hand = w; found_empty = n } ≡ place)
       (λ x. (◌≡◌ {A = PlaceView T Q} (record { deque = deque; hand = w; found_empty = n })
-      (record { deque = place.deque; hand = has_taken place.hand x; found_empty = place.found_empty })) × IsSoundFor sound place.hand.problem x)
+      (record { deque = place.deque; hand = has_taken place.hand x; found_empty = place.found_empty })) × IsSoundFor sound place.hand.members x)
   stolen deque n v w place retry Empty view told = ap (λ (u : Hand T Q). record { deque = deque; hand = u; found_empty = n }) told.0 ∙ view
   stolen deque n v w place retry Retry view told = ap (λ (u : Hand T Q). record { deque = deque; hand = u; found_empty = n }) told.0 ∙ view
   stolen deque n v w place retry (Success x) view told = (

@@ -24,5 +24,5 @@ module _ {T Q : Type 0} where
     pub long : length now ≡ count
     pub bag : SameBag now all
     pub pools : All (λ pass. pass.pool ≡ pool) now
-    pub told : (about : Option Q) → All (λ pass. pass.problem ≡ about) all → All (λ pass. pass.problem ≡ about) now
+    pub told : (about : Option Q) → All (λ pass. pass.members ≡ about) all → All (λ pass. pass.members ≡ about) now
     pub placed : (at : ℕ) (other : PassView T Q) → at < first → at < length now → (slice_index_or now at other).number + at + 1 ≡ count

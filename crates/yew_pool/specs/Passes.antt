@@ -9,13 +9,13 @@ use Rattle.yew_pool.specs.Places.{DequeId, PlaceView, once_more}
 pub record PoolId : Type 0 where
   pub deques : List DequeId
 
--- A pass: the pool that it is of, its number from 0, its share of the pool's, the problem, what it has put and taken,
--- and how often it has found each deque empty
+-- A pass: the pool that it is of, its number from 0, its share of the pool's, the members of the problem's tree, once it is told them,
+-- what it has put and taken, and how often it has found each deque empty
 pub record PassView (T Q : Type 0) : Type 0 where
   pub pool : PoolId
   pub number : ℕ
   pub share : ℕ
-  pub problem : Option Q
+  pub members : Option Q
   pub put : List T
   pub took : List T
   pub found_empty : List ℕ
@@ -34,17 +34,17 @@ pass_view number own places =
       pool = deques_of places;
       number = number;
       share = 1;
-      problem = own.hand.problem;
+      members = own.hand.members;
       put = own.hand.put;
       took = own.hand.took ++ taken_at places;
       found_empty = map (λ place. place.found_empty) places;
     }
 
 -- a place of a pass: it puts nothing there, it is idle at its own deque, and has a share of 1 at any other
-pub record IsPlaced {T Q : Type 0} (problem : Option Q) (number at : ℕ) (place : PlaceView T Q) : Type 0 where
+pub record IsPlaced {T Q : Type 0} (members : Option Q) (number at : ℕ) (place : PlaceView T Q) : Type 0 where
   pub puts_nothing : place.hand.put ≡ []
   pub idle : at ≡ number → (place.hand.share ≡ 0) × (place.hand.took ≡ [])
-  pub other : at ≢ number → (place.hand.share ≡ 1) × (place.hand.problem ≡ problem)
+  pub other : at ≢ number → (place.hand.share ≡ 1) × (place.hand.members ≡ members)
 
 -- the places of the pass with this number, one at each deque in order. With one place each, the other passes have one
 -- less than the owner, so two owners of a deque would have more than the whole share
@@ -54,7 +54,7 @@ pub record AreSeated {T Q : Type 0} (number : ℕ) (own : PlaceView T Q) (places
   pub share : own.hand.share ≡ length places
   pub whole : own.hand.whole + 1 ≡ length places + length places
   pub shares : own.hand.share + sum_by (λ place. place.hand.share) places ≡ own.hand.whole
-  pub each : (at : ℕ) (other : PlaceView T Q) → at < length places → IsPlaced own.hand.problem number at (slice_index_or places at other)
+  pub each : (at : ℕ) (other : PlaceView T Q) → at < length places → IsPlaced own.hand.members number at (slice_index_or places at other)
 
 -- a pass with its places, and room for the deques and places of all passes
 pub record IsSeated {T Q : Type 0} (number : ℕ) (own : PlaceView T Q) (places : List (PlaceView T Q)) (room : ℕ) : Type 0 where
@@ -83,11 +83,11 @@ pub record HasLookedRound {T Q : Type 0} (old new : PassView T Q) : Type 0 where
 
 -- a pass that has done nothing yet
 abbrev pub new_pass : {T Q : Type 0} → PoolId → Option Q → ℕ → PassView T Q
-new_pass pool problem number = record {
+new_pass pool members number = record {
   pool = pool;
   number = number;
   share = 1;
-  problem = problem;
+  members = members;
   put = [];
   took = [];
   found_empty = replicate (length pool.deques) 0;
@@ -99,16 +99,16 @@ all_put passes = flat_map (λ pass. pass.put) passes
 abbrev pub all_took : {T Q : Type 0} → List (PassView T Q) → List T
 all_took passes = flat_map (λ pass. pass.took) passes
 
--- the tasks that were appended are those that these passes put and did not take, and sound for their problem
+-- the tasks that were appended are those that these passes put and did not take, and sound by the members that they know
 pub record IsLeft {T Q : Type 0} (sound : Q → T → Type 0) (passes : List (PassView T Q)) (before after : List T) : Type 0 where
   pub rest : List T
   pub appended : after ≡ before ++ rest
   pub bag : SameBag (all_took passes ++ rest) (all_put passes)
-  pub sound_rest : (problem : Q) → All (λ pass. pass.problem ≡ Some problem) passes → All (sound problem) rest
+  pub sound_rest : (members : Q) → All (λ pass. pass.members ≡ Some members) passes → All (sound members) rest
 
 -- the tasks that were appended are some of those
 pub record IsPartLeft {T Q : Type 0} (sound : Q → T → Type 0) (passes : List (PassView T Q)) (before after : List T) : Type 0 where
   pub rest : List T
   pub appended : after ≡ before ++ rest
   pub part : PartOfBag (all_took passes ++ rest) (all_put passes)
-  pub sound_rest : (problem : Q) → All (λ pass. pass.problem ≡ Some problem) passes → All (sound problem) rest
+  pub sound_rest : (members : Q) → All (λ pass. pass.members ≡ Some members) passes → All (sound members) rest

@@ -1,8 +1,10 @@
 -- For tests: a tree of a root and its children, and passes of one pool.
-use Rattle.std.specs.Prelude.{◌≡◌, ◌≢◌, ℕ, ◌+◌, ◌<◌, ◌≤◌, ◌^◌, List, [], ◌∷◌, length, replicate, All, Option, refl}
+use Rattle.std.specs.Prelude.{◌≡◌, ◌≢◌, ℕ, ◌+◌, ◌<◌, ◌≤◌, ◌^◌, List, [], ◌∷◌, length, replicate, All, Option, Some, refl}
 use Rattle.std.specs.List.{AllByRecursion}
 use Rattle.std.proofs.Common.{zero, suc, arith}
 use Rattle.std.proofs.lemmas.List.{length-replicate}
+use Rattle.yew_laws.specs.SearchTree.{SearchTree}
+use Rattle.yew_laws.specs.Tasks.{members_of}
 use Rattle.yew_laws.specs.Tree.{IsRanked, IsBounded}
 use Rattle.yew_laws.proofs.Bounds.{IsBounded-from_steps}
 use Rattle.yew_pool.specs.Passes.{PassView, PoolId}
@@ -52,12 +54,20 @@ pub no_children : (width n : ℕ) → n ≢ 0 → [] ≡ children_of width n
 no_children width zero some = absurd (some refl)
 no_children width (suc n) some = refl
 
--- a pass of this pool for this problem
-pub record IsPassFor {T Q : Type 0} (pool : PoolId) (problem : Option Q) (pass : PassView T Q) : Type 0 where
+-- the tree of that width
+abbrev pub flat_tree : ℕ → SearchTree ℕ
+flat_tree width = record { root = 0; children = children_of width; rank = rank_of; worth = λ n. 0; bound = λ n. 1 }
+
+-- what the passes of a pool for it are told
+abbrev pub told_flat : ℕ → Option (List (List ℕ × ℕ))
+told_flat width = Some (members_of (flat_tree width))
+
+-- a pass of this pool that was told these members
+pub record IsPassFor {T Q : Type 0} (pool : PoolId) (members : Option Q) (pass : PassView T Q) : Type 0 where
   pub of_pool : pass.pool ≡ pool
-  pub for_problem : pass.problem ≡ problem
+  pub for_members : pass.members ≡ members
   pub one : pass.share ≡ 1
 
--- passes of this pool for this problem
+-- passes of this pool that were told these members
 abbrev pub ArePassesFor : {T Q : Type 0} → PoolId → Option Q → List (PassView T Q) → Type 0
-ArePassesFor pool problem passes = All (IsPassFor pool problem) passes
+ArePassesFor pool members passes = All (IsPassFor pool members) passes

@@ -4,29 +4,32 @@ ghost use Rattle.std.specs.Prelude.{◌≡◌, ◌++◌, ⊤};
 use crossbeam_deque::protocol::{Join, Lesson, Outcome, Protocol, Split};
 use std::collections::LinkedList;
 use std::marker::{Brand, PhantomData};
-use yew_tasks::Carried;
+use yew_laws::Task;
 
-/// What a place knows: its share of the deque, what it has put and taken, and the problem, once it is told. No value
-/// of it is made.
+/// What a place knows: its share of the deque, what it has put and taken, and the members of the problem's tree, once
+/// it is told them. No value of it is made.
 pub struct Hand<T, Q> {
     /// Nothing was told yet.
     pub fresh: bool,
     /// The whole share, which is the same for all places at the deque.
     pub whole: u64,
     pub share: u64,
-    pub problem: Option<Q>,
+    pub members: Option<Q>,
     pub put: LinkedList<T>,
     pub took: LinkedList<T>,
 }
 
-pub struct Conserves<P> {
-    problem: PhantomData<P>,
-}
+/// What a hand knows of a problem: the paths and the nodes of its tree, in preorder.
+pub type Members<N> = LinkedList<(LinkedList<u32>, N)>;
 
-impl<P: Carried> Protocol<P::Task, Hand<P::Task, P>> for Conserves<P> {
+/// The rule of a deque of tasks.
+pub struct Conserves;
+
+impl<N> Protocol<Task<N>, Hand<Task<N>, Members<N>>> for Conserves {
+    ghost use Rattle.yew_laws.specs.Tasks.{IsAmong};
     ghost use Rattle.yew_pool.specs.Rule.{Conserved, unopened, spent};
 
-    ghost holds = { Conserved P.carries };
+    ghost holds = { Conserved IsAmong };
 
     ghost first = { unopened };
 
@@ -39,33 +42,31 @@ pub struct Puts;
 impl<T, Q> Outcome<T, Hand<T, Q>> for Puts {
     ghost use Rattle.yew_pool.specs.Rule.{hand};
 
-    ghost then = { λ v xs w. w ≡ hand v.fresh v.whole v.share v.problem (v.put ++ xs) v.took };
+    ghost then = { λ v xs w. w ≡ hand v.fresh v.whole v.share v.members (v.put ++ xs) v.took };
 }
 
 /// A pop by the owner.
-pub struct Takes<P> {
-    problem: PhantomData<P>,
-}
+pub struct Takes;
 
-impl<P: Carried> Outcome<P::Task, Hand<P::Task, P>> for Takes<P> {
+impl<N> Outcome<Task<N>, Hand<Task<N>, Members<N>>> for Takes {
+    ghost use Rattle.yew_laws.specs.Tasks.{IsAmong};
     ghost use Rattle.yew_pool.specs.Rule as rule;
     ghost use Rattle.yew_pool.specs.Rule.{Balances};
     ghost use Rattle.std.specs.Prelude.{[]};
 
-    ghost then = { rule.Takes P.carries };
+    ghost then = { rule.Takes IsAmong };
 
     ghost empty = { λ v. Balances v [] };
 }
 
 /// A steal, which tells nothing where it finds no task.
-pub struct Steals<P> {
-    problem: PhantomData<P>,
-}
+pub struct Steals;
 
-impl<P: Carried> Outcome<P::Task, Hand<P::Task, P>> for Steals<P> {
+impl<N> Outcome<Task<N>, Hand<Task<N>, Members<N>>> for Steals {
+    ghost use Rattle.yew_laws.specs.Tasks.{IsAmong};
     ghost use Rattle.yew_pool.specs.Rule as rule;
 
-    ghost then = { rule.Takes P.carries };
+    ghost then = { rule.Takes IsAmong };
 }
 
 /// A look that changes nothing.
@@ -121,24 +122,24 @@ impl<T, Q> Join<Hand<T, Q>> for Together {
     ghost spent = { spent };
 }
 
-/// A problem and a whole share, which a call picks.
-pub trait About<P> {
+/// Members and a whole share, which a call picks.
+pub trait About<Q> {
     ghost use Rattle.std.specs.Prelude.{ℕ, Option};
 
-    ghost problem: { Option P };
+    ghost members: { Option Q };
 
     ghost whole: { ℕ };
 }
 
-impl<P> About<P> for Brand {
+impl<Q> About<Q> for Brand {
     ghost use Rattle.std.specs.Prelude.{None};
 
-    ghost problem = { None };
+    ghost members = { None };
 
     ghost whole = { 0 };
 }
 
-/// A new deque is told the problem and the whole share.
+/// A new deque is told the members and the whole share.
 pub struct Starts<J> {
     about: PhantomData<J>,
 }
@@ -146,7 +147,7 @@ pub struct Starts<J> {
 impl<T, Q, J: About<Q>> Split<Hand<T, Q>> for Starts<J> {
     ghost use Rattle.yew_pool.specs.Rule.{started, spent};
 
-    ghost left = { λ _. started J.whole J.problem };
+    ghost left = { λ _. started J.whole J.members };
 
     ghost right = { λ _. spent };
 }

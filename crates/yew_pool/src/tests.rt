@@ -1,6 +1,7 @@
-ghost use Rattle.std.specs.Prelude.{◌≡◌, ◌<◌, ◌≤◌, ◌∷◌, [], length, replicate, IfOk, Some};
+ghost use Rattle.std.specs.Prelude.{◌≡◌, ◌<◌, ◌≤◌, ◌∷◌, [], length, replicate, IfOk};
 ghost use Rattle.std.specs.Thread.{IsSync};
-ghost use Rattle.yew_pool.specs.Trials.{ArePassesFor, IsPassFor, IsOfFlat, children_of, rank_of, flat-bounded, flat-countable, flat-ranked, flat-root_rank};
+ghost use Rattle.yew_pool.specs.Trials.{ArePassesFor, IsPassFor, IsOfFlat, children_of, rank_of, told_flat};
+ghost use Rattle.yew_pool.specs.Trials.{flat-bounded, flat-countable, flat-ranked, flat-root_rank};
 
 use crate::{Pool, PoolPass, Take};
 use std::alloc::Global;
@@ -76,7 +77,7 @@ impl Problem for Flat {
 }
 
 /// The task of a child of the root.
-fn child(alloc: Global, number: u32) -> Result<Task<Flat>, Memory>
+fn child(alloc: Global, number: u32) -> Result<Task<u32>, Memory>
     requires { number < 65536 }
     ensures { IfOk result (λ task. (task.path.numbers ≡ number ∷ []) × (task.node ≡ 1)) }
 {
@@ -87,7 +88,7 @@ fn child(alloc: Global, number: u32) -> Result<Task<Flat>, Memory>
 }
 
 /// The number of the child whose task it is.
-fn number_of(task: &Task<Flat>) -> u32 {
+fn number_of(task: &Task<u32>) -> u32 {
     match task.path.numbers().first() {
         Some(number) => *number,
         None => u32::MAX,
@@ -99,10 +100,10 @@ fn made(
     alloc: Global,
     problem: &Flat,
     passes: u32,
-) -> Result<(Pool<Flat>, Vec<PoolPass<Flat>>), Memory>
+) -> Result<(Pool<u32>, Vec<PoolPass<u32>>), Memory>
     requires { (0 < passes) × (passes ≤ 64) }
     ensures count { IfOk result (λ r. (length r.0.deques ≡ passes) × (length r.1.items ≡ passes)) }
-    ensures passes { IfOk result (λ r. ArePassesFor r.0 (Some problem.now) r.1.items) }
+    ensures passes { IfOk result (λ r. ArePassesFor r.0 (told_flat problem.now.width) r.1.items) }
 {
     let (pool, passes) = Pool::new(alloc, problem, passes)?;
     Ok((pool, passes))
@@ -112,13 +113,13 @@ fn made(
 fn put(
     alloc: Global,
     problem: &Flat,
-    pool: &Pool<Flat>,
-    pass: &mut PoolPass<Flat>,
+    pool: &Pool<u32>,
+    pass: &mut PoolPass<u32>,
     number: u32,
 ) -> Result<(), Memory>
     requires width { problem.now.width < 65536 }
-    requires pass { IsPassFor pool.now (Some problem.now) pass.old }
-    ensures { IsPassFor pool.now (Some problem.now) pass.new }
+    requires pass { IsPassFor pool.now (told_flat problem.now.width) pass.old }
+    ensures { IsPassFor pool.now (told_flat problem.now.width) pass.new }
 {
     if number >= problem.width {
         return Err(Memory);
@@ -131,14 +132,9 @@ fn put(
 }
 
 /// Takes a task, and answers the number of its child.
-fn take<R: Wait>(
-    rt: &R,
-    problem: &Flat,
-    pool: &Pool<Flat>,
-    pass: &mut PoolPass<Flat>,
-) -> Option<u32>
-    requires { IsPassFor pool.now (Some problem.now) pass.old }
-    ensures { IsPassFor pool.now (Some problem.now) pass.new }
+fn take<R: Wait>(rt: &R, problem: &Flat, pool: &Pool<u32>, pass: &mut PoolPass<u32>) -> Option<u32>
+    requires { IsPassFor pool.now (told_flat problem.now.width) pass.old }
+    ensures { IsPassFor pool.now (told_flat problem.now.width) pass.new }
 {
     let _ = problem;
     match pool.take(rt, pass) {
@@ -151,10 +147,10 @@ fn take<R: Wait>(
 fn close(
     alloc: Global,
     problem: &Flat,
-    pool: Pool<Flat>,
-    passes: Vec<PoolPass<Flat>>,
+    pool: Pool<u32>,
+    passes: Vec<PoolPass<u32>>,
 ) -> Result<Vec<u32>, Memory>
-    requires passes { ArePassesFor pool (Some problem.now) passes.items }
+    requires passes { ArePassesFor pool (told_flat problem.now.width) passes.items }
     requires count { length passes.items ≡ length pool.deques }
 {
     let _ = problem;
@@ -168,13 +164,10 @@ fn close(
 }
 
 /// A pool for two passes, and the passes.
-fn pair(
-    alloc: Global,
-    problem: &Flat,
-) -> Result<(Pool<Flat>, PoolPass<Flat>, PoolPass<Flat>), Memory>
+fn pair(alloc: Global, problem: &Flat) -> Result<(Pool<u32>, PoolPass<u32>, PoolPass<u32>), Memory>
     ensures count { IfOk result (λ r. length r.0.deques ≡ 2) }
-    ensures first { IfOk result (λ r. IsPassFor r.0 (Some problem.now) r.1) }
-    ensures second { IfOk result (λ r. IsPassFor r.0 (Some problem.now) r.2) }
+    ensures first { IfOk result (λ r. IsPassFor r.0 (told_flat problem.now.width) r.1) }
+    ensures second { IfOk result (λ r. IsPassFor r.0 (told_flat problem.now.width) r.2) }
 {
     let (pool, mut passes) = made(alloc, problem, 2)?;
     let first = passes.remove(0);
@@ -186,13 +179,13 @@ fn pair(
 fn listed(
     alloc: Global,
     problem: &Flat,
-    pool: &Pool<Flat>,
-    first: PoolPass<Flat>,
-    second: PoolPass<Flat>,
-) -> Result<Vec<PoolPass<Flat>>, Memory>
-    requires first { IsPassFor pool.now (Some problem.now) first }
-    requires second { IsPassFor pool.now (Some problem.now) second }
-    ensures passes { IfOk result (λ passes. ArePassesFor pool.now (Some problem.now) passes.items) }
+    pool: &Pool<u32>,
+    first: PoolPass<u32>,
+    second: PoolPass<u32>,
+) -> Result<Vec<PoolPass<u32>>, Memory>
+    requires first { IsPassFor pool.now (told_flat problem.now.width) first }
+    requires second { IsPassFor pool.now (told_flat problem.now.width) second }
+    ensures passes { IfOk result (λ passes. ArePassesFor pool.now (told_flat problem.now.width) passes.items) }
     ensures count { IfOk result (λ passes. length passes.items ≡ 2) }
 {
     let _ = problem;
@@ -278,13 +271,13 @@ fn follow<R: Wait>(
     rt: &R,
     alloc: Global,
     problem: &Flat,
-    pool: &Pool<Flat>,
-    pass: &mut PoolPass<Flat>,
+    pool: &Pool<u32>,
+    pass: &mut PoolPass<u32>,
     plan: Plan,
 ) -> Result<Vec<u32>, Memory>
     requires width { problem.now.width < 65536 }
-    requires pass { IsPassFor pool.now (Some problem.now) pass.old }
-    ensures { IsPassFor pool.now (Some problem.now) pass.new }
+    requires pass { IsPassFor pool.now (told_flat problem.now.width) pass.old }
+    ensures { IsPassFor pool.now (told_flat problem.now.width) pass.new }
 {
     let mut taken = Vec::new(alloc);
     for turn in 0..plan.turns {
@@ -307,14 +300,14 @@ fn work<R: Wait>(
     rt: &R,
     alloc: Global,
     problem: &Flat,
-    pool: &Pool<Flat>,
-    mut pass: PoolPass<Flat>,
+    pool: &Pool<u32>,
+    mut pass: PoolPass<u32>,
     eight: bool,
     taken: &Mutex<Vec<u32>>,
-) -> PoolPass<Flat>
+) -> PoolPass<u32>
     requires width { problem.now.width < 65536 }
-    requires pass { IsPassFor pool.now (Some problem.now) pass }
-    ensures { IsPassFor pool.now (Some problem.now) result }
+    requires pass { IsPassFor pool.now (told_flat problem.now.width) pass }
+    ensures { IsPassFor pool.now (told_flat problem.now.width) result }
 {
     let plan = plan_of(pass.number(), eight);
     if let Ok(mut mine) = follow(rt, alloc, problem, pool, &mut pass, plan) {
@@ -328,18 +321,18 @@ fn in_threads<R: Threads + Wait + Sync>(
     rt: &R,
     alloc: Global,
     problem: &Flat,
-    pool: &Pool<Flat>,
-    passes: Vec<PoolPass<Flat>>,
+    pool: &Pool<u32>,
+    passes: Vec<PoolPass<u32>>,
     eight: bool,
     taken: &Mutex<Vec<u32>>,
-) -> Result<Vec<PoolPass<Flat>>, Memory>
+) -> Result<Vec<PoolPass<u32>>, Memory>
     requires width { problem.now.width < 65536 }
-    requires passes { ArePassesFor pool.now (Some problem.now) passes.items }
-    ensures { IfOk result (λ after. ArePassesFor pool.now (Some problem.now) after.items × (length after.items ≡ length passes.items)) }
+    requires passes { ArePassesFor pool.now (told_flat problem.now.width) passes.items }
+    ensures { IfOk result (λ after. ArePassesFor pool.now (told_flat problem.now.width) after.items × (length after.items ≡ length passes.items)) }
 {
-    let run = |pass: PoolPass<Flat>| -> PoolPass<Flat>
-        requires { IsSync R.row × (problem.now.width < 65536) × IsPassFor pool.now (Some problem.now) pass }
-        ensures { IsPassFor pool.entry.now (Some problem.entry.now) result }
+    let run = |pass: PoolPass<u32>| -> PoolPass<u32>
+        requires { IsSync R.row × (problem.now.width < 65536) × IsPassFor pool.now (told_flat problem.now.width) pass }
+        ensures { IsPassFor pool.entry.now (told_flat problem.entry.now.width) result }
     { work(rt, alloc, problem, pool, pass, eight, taken) };
     let after = map_vec(rt, passes, &run)?;
     Ok(after)

@@ -89,45 +89,44 @@ module _ {N : Type 0} (tree_of : N → List (Member N)) where
       let top : LevelView N = record { parent = path; given = 0; remaining = nodes } in
       omega (arith, ap length (to_come-opens lower path nodes), length-append (prefixed path (forest tree_of 0 nodes)) (levels_to_come tree_of lower), length-prefixed path (forest tree_of 0 nodes), length-append lower (top ∷ []))
 
-  module _ {S K : Type 0} where
-    -- the members at and below a task
-    abbrev members : Task S N K → List (Member N)
-    members task = prefixed task.path.numbers (tree_of task.node)
+  -- the members at and below a task
+  abbrev members : Task N → List (Member N)
+  members task = prefixed task.path.numbers (tree_of task.node)
 
-    forest-moved : (path : List ℕ) (k : ℕ) (moved : List (Task S N K)) (ns : List N) → paths_of moved ≡ numbered path k (nodes_of moved) → prefixed path (forest tree_of k (nodes_of moved ++ ns)) ≡ flat_map members moved ++ prefixed path (forest tree_of (k + length moved) ns)
-    forest-moved path k [] ns are = let same : k ≡ k + 0 = omega arith in ap (λ i. prefixed path (forest tree_of i ns)) same
-    forest-moved path k (task ∷ tasks) ns are =
-        let first : task.path.numbers ≡ path ++ k ∷ [] = cc in
-        let others : paths_of tasks ≡ numbered path (suc k) (nodes_of tasks) = cc in
-        let count : suc k + length tasks ≡ k + suc (length tasks) = omega arith in
-        prefixed-forest tree_of path k task.node (nodes_of tasks ++ ns)
-        ∙ ap₂ (λ (p : List ℕ) (ms : List (Member N)). prefixed p (tree_of task.node) ++ ms) (sym first) (forest-moved path (suc k) tasks ns others ∙ ap (λ i. flat_map members tasks ++ prefixed path (forest tree_of i ns)) count)
-        ∙ sym (append_assoc (members task) (flat_map members tasks) (prefixed path (forest tree_of (k + suc (length tasks)) ns)))
+  forest-moved : (path : List ℕ) (k : ℕ) (moved : List (Task N)) (ns : List N) → paths_of moved ≡ numbered path k (nodes_of moved) → prefixed path (forest tree_of k (nodes_of moved ++ ns)) ≡ flat_map members moved ++ prefixed path (forest tree_of (k + length moved) ns)
+  forest-moved path k [] ns are = let same : k ≡ k + 0 = omega arith in ap (λ i. prefixed path (forest tree_of i ns)) same
+  forest-moved path k (task ∷ tasks) ns are =
+      let first : task.path.numbers ≡ path ++ k ∷ [] = cc in
+      let others : paths_of tasks ≡ numbered path (suc k) (nodes_of tasks) = cc in
+      let count : suc k + length tasks ≡ k + suc (length tasks) = omega arith in
+      prefixed-forest tree_of path k task.node (nodes_of tasks ++ ns)
+      ∙ ap₂ (λ (p : List ℕ) (ms : List (Member N)). prefixed p (tree_of task.node) ++ ms) (sym first) (forest-moved path (suc k) tasks ns others ∙ ap (λ i. flat_map members tasks ++ prefixed path (forest tree_of i ns)) count)
+      ∙ sym (append_assoc (members task) (flat_map members tasks) (prefixed path (forest tree_of (k + suc (length tasks)) ns)))
 
-    -- the trees of the nodes that are moved come first, and then what is left of the level
-    pub level_to_come-moves : (old new : LevelView N) (moved : List (Task S N K)) → Moves old moved new → level_to_come tree_of old ≡ flat_map members moved ++ level_to_come tree_of new
-    level_to_come-moves old new moved m =
-        ap (λ left. prefixed old.parent (forest tree_of old.given left)) m.remaining_is
-        ∙ forest-moved old.parent old.given moved new.remaining m.paths_are
-        ∙ ap₂ (λ (p : List ℕ) (k : ℕ). flat_map members moved ++ prefixed p (forest tree_of k new.remaining)) (sym m.parent_is) (sym m.given_is)
+  -- the trees of the nodes that are moved come first, and then what is left of the level
+  pub level_to_come-moves : (old new : LevelView N) (moved : List (Task N)) → Moves old moved new → level_to_come tree_of old ≡ flat_map members moved ++ level_to_come tree_of new
+  level_to_come-moves old new moved m =
+      ap (λ left. prefixed old.parent (forest tree_of old.given left)) m.remaining_is
+      ∙ forest-moved old.parent old.given moved new.remaining m.paths_are
+      ∙ ap₂ (λ (p : List ℕ) (k : ℕ). flat_map members moved ++ prefixed p (forest tree_of k new.remaining)) (sym m.parent_is) (sym m.given_is)
 
-    -- as bags: what was to come is what is to come, and what lies at and below the tasks that were moved
-    pub to_come-moves : (lower upper : List (LevelView N)) (old new : LevelView N) (moved : List (Task S N K)) → Moves old moved new → SameBag (levels_to_come tree_of (lower ++ old ∷ upper)) (levels_to_come tree_of (lower ++ new ∷ upper) ++ flat_map members moved)
-    to_come-moves lower upper old new moved m = record {
-      weighs = λ h.
-          let above = levels_to_come tree_of upper in
-          let below = levels_to_come tree_of lower in
-          let a = ap (sum_by h) (to_come-around lower old upper) in
-          let b = sum_by-append h above (level_to_come tree_of old ++ below) in
-          let c = sum_by-append h (level_to_come tree_of old) below in
-          let d = ap (sum_by h) (level_to_come-moves old new moved m) in
-          let e = sum_by-append h (flat_map members moved) (level_to_come tree_of new) in
-          let f = sum_by-append h (levels_to_come tree_of (lower ++ new ∷ upper)) (flat_map members moved) in
-          let i = ap (sum_by h) (to_come-around lower new upper) in
-          let j = sum_by-append h above (level_to_come tree_of new ++ below) in
-          let k = sum_by-append h (level_to_come tree_of new) below in
-          omega arith;
-    }
+  -- as bags: what was to come is what is to come, and what lies at and below the tasks that were moved
+  pub to_come-moves : (lower upper : List (LevelView N)) (old new : LevelView N) (moved : List (Task N)) → Moves old moved new → SameBag (levels_to_come tree_of (lower ++ old ∷ upper)) (levels_to_come tree_of (lower ++ new ∷ upper) ++ flat_map members moved)
+  to_come-moves lower upper old new moved m = record {
+    weighs = λ h.
+        let above = levels_to_come tree_of upper in
+        let below = levels_to_come tree_of lower in
+        let a = ap (sum_by h) (to_come-around lower old upper) in
+        let b = sum_by-append h above (level_to_come tree_of old ++ below) in
+        let c = sum_by-append h (level_to_come tree_of old) below in
+        let d = ap (sum_by h) (level_to_come-moves old new moved m) in
+        let e = sum_by-append h (flat_map members moved) (level_to_come tree_of new) in
+        let f = sum_by-append h (levels_to_come tree_of (lower ++ new ∷ upper)) (flat_map members moved) in
+        let i = ap (sum_by h) (to_come-around lower new upper) in
+        let j = sum_by-append h above (level_to_come tree_of new ++ below) in
+        let k = sum_by-append h (level_to_come tree_of new) below in
+        omega arith;
+  }
 
 -- a node with its path in the tree
 pub record IsAt {N : Type 0} (sound : N → Type 0) (children : N → List N) (root : N) (path : List ℕ) (node : N) : Type 0 where
@@ -135,7 +134,7 @@ pub record IsAt {N : Type 0} (sound : N → Type 0) (children : N → List N) (r
   pub is_sound : sound node
 
 -- the level of which nodes were moved is still open, and each of these is a node of the tree
-pub record IsOpenStill {S N K : Type 0} (sound : N → Type 0) (children : N → List N) (root : N) (moved : List (Task S N K)) (new : LevelView N) : Type 0 where
+pub record IsOpenStill {N : Type 0} (sound : N → Type 0) (children : N → List N) (root : N) (moved : List (Task N)) (new : LevelView N) : Type 0 where
   pub is_open : IsOpen sound children root new
   pub tasks : AllByRecursion (λ task. IsAt sound children root task.path.numbers task.node) moved
 
@@ -177,29 +176,28 @@ module _ {N : Type 0} {sound : N → Type 0} {children : N → List N} {rank : N
     remaining_is = all;
   }
 
-  module _ {S K : Type 0} where
-    pub open-moves : (moved : List (Task S N K)) (old new : LevelView N) → IsOpen sound children root old → Moves old moved new → IsOpenStill sound children root moved new
-    open-moves [] old new is_open m =
-        let given : new.given ≡ old.given = omega (arith, m.given_is) in
-        record {
-          is_open = record {
-            parent_node = is_open.parent_node;
-            found = rw m.parent_is is_open.found;
-            is_sound = is_open.is_sound;
-            within = omega (arith, given, is_open.within);
-            remaining_is = rw given (sym m.remaining_is ∙ is_open.remaining_is);
-          };
-          tasks = tt;
-        }
-    open-moves (task ∷ tasks) old new is_open m =
-        let mid : LevelView N = record { parent = old.parent; given = suc old.given; remaining = nodes_of tasks ++ new.remaining } in
-        let are : paths_of (task ∷ tasks) ≡ numbered old.parent old.given (nodes_of (task ∷ tasks)) = m.paths_are in
-        let first : task.path.numbers ≡ old.parent ++ old.given ∷ [] = cc in
-        let others : paths_of tasks ≡ numbered old.parent (suc old.given) (nodes_of tasks) = cc in
-        let gives : Gives old task.path.numbers task.node mid = record { path_is = first; remaining_is = m.remaining_is; given_is = sym (add-one old.given); parent_is = refl } in
-        let more : Moves mid tasks new = record { remaining_is = refl; paths_are = others; given_is = omega (arith, m.given_is); parent_is = m.parent_is } in
-        let still = open-moves tasks mid new (open-gives old mid task.path.numbers task.node is_open gives) more in
-        record { is_open = still.is_open; tasks = (open-child old mid task.path.numbers task.node is_open gives, still.tasks) }
+  pub open-moves : (moved : List (Task N)) (old new : LevelView N) → IsOpen sound children root old → Moves old moved new → IsOpenStill sound children root moved new
+  open-moves [] old new is_open m =
+      let given : new.given ≡ old.given = omega (arith, m.given_is) in
+      record {
+        is_open = record {
+          parent_node = is_open.parent_node;
+          found = rw m.parent_is is_open.found;
+          is_sound = is_open.is_sound;
+          within = omega (arith, given, is_open.within);
+          remaining_is = rw given (sym m.remaining_is ∙ is_open.remaining_is);
+        };
+        tasks = tt;
+      }
+  open-moves (task ∷ tasks) old new is_open m =
+      let mid : LevelView N = record { parent = old.parent; given = suc old.given; remaining = nodes_of tasks ++ new.remaining } in
+      let are : paths_of (task ∷ tasks) ≡ numbered old.parent old.given (nodes_of (task ∷ tasks)) = m.paths_are in
+      let first : task.path.numbers ≡ old.parent ++ old.given ∷ [] = cc in
+      let others : paths_of tasks ≡ numbered old.parent (suc old.given) (nodes_of tasks) = cc in
+      let gives : Gives old task.path.numbers task.node mid = record { path_is = first; remaining_is = m.remaining_is; given_is = sym (add-one old.given); parent_is = refl } in
+      let more : Moves mid tasks new = record { remaining_is = refl; paths_are = others; given_is = omega (arith, m.given_is); parent_is = m.parent_is } in
+      let still = open-moves tasks mid new (open-gives old mid task.path.numbers task.node is_open gives) more in
+      record { is_open = still.is_open; tasks = (open-child old mid task.path.numbers task.node is_open gives, still.tasks) }
 
 module _ {S N K : Type 0} (meaning : Ghosts S N K) (problem : S) where
   abbrev seen : List (LevelValue K) → List (LevelView N)
@@ -208,49 +206,49 @@ module _ {S N K : Type 0} (meaning : Ghosts S N K) (problem : S) where
   abbrev Open : LevelView N → Type 0
   Open = IsOpen (meaning.sound problem) (meaning.children problem) (meaning.root problem)
 
-  abbrev IsTaskHere : Task S N K → Type 0
+  abbrev IsTaskHere : Task N → Type 0
   IsTaskHere task = IsTask meaning problem task.path.numbers task.node
 
   -- what a split leaves, where it moved tasks
-  pub split-to_come : (old new : List (LevelValue K)) (before after : List (Task S N K)) → MovesLowest (seen old) before after (seen new) → SameBag (to_come meaning problem old) (to_come meaning problem new ++ flat_map (task_members meaning problem) (appended before after))
+  pub split-to_come : (old new : List (LevelValue K)) (before after : List (Task N)) → MovesLowest (seen old) before after (seen new) → SameBag (to_come meaning problem old) (to_come meaning problem new ++ flat_map (task_members meaning problem) (appended before after))
   split-to_come old new before after m =
       let trees = node_tree meaning problem in
       let tasks : appended before after ≡ m.moves.moved = ap (drop (length before)) m.moves.after_is ∙ drop-append_seam before m.moves.moved in
       rw (m.old_is, m.new_is, tasks) (to_come-moves trees m.lower m.upper m.level m.rest m.moves.moved m.moves.moves)
 
-  pub split-open : IsRanked (meaning.sound problem) (meaning.children problem) (meaning.rank problem) → (old new : List (LevelValue K)) (before after : List (Task S N K)) → MovesLowest (seen old) before after (seen new) → AllOpen meaning problem old → AllOpen meaning problem new × AllByRecursion IsTaskHere (appended before after)
+  pub split-open : IsRanked (meaning.sound problem) (meaning.children problem) (meaning.rank problem) → (old new : List (LevelValue K)) (before after : List (Task N)) → MovesLowest (seen old) before after (seen new) → AllOpen meaning problem old → AllOpen meaning problem new × AllByRecursion IsTaskHere (appended before after)
   split-open ranked old new before after m all =
       let tasks : appended before after ≡ m.moves.moved = ap (drop (length before)) m.moves.after_is ∙ drop-append_seam before m.moves.moved in
       let around = AllByRecursion-around Open m.lower m.level m.upper (subst (AllByRecursion Open) m.old_is all) in
       let still = open-moves ranked m.moves.moved m.level m.rest around.here m.moves.moves in (
         subst (AllByRecursion Open) (sym m.new_is) (AllByRecursion-append Open m.lower (m.rest ∷ m.upper) around.before (still.is_open, around.after)),
         subst (AllByRecursion IsTaskHere) (sym tasks)
-            (AllByRecursion-weaker (λ (task : Task S N K). IsAt (meaning.sound problem) (meaning.children problem) (meaning.root problem) task.path.numbers task.node) IsTaskHere
+            (AllByRecursion-weaker (λ (task : Task N). IsAt (meaning.sound problem) (meaning.children problem) (meaning.root problem) task.path.numbers task.node) IsTaskHere
             (λ task at. record { is_sound = at.is_sound; found = at.found })
             m.moves.moved still.tasks),
       )
 
   -- where no tasks were moved
-  none-appended : (before after : List (Task S N K)) → after ≡ before → appended before after ≡ []
+  none-appended : (before after : List (Task N)) → after ≡ before → appended before after ≡ []
   none-appended before after kept = ap (drop (length before)) (kept ∙ sym (append-nil before)) ∙ drop-append_seam before []
 
-  pub none-to_come : (old new : List (LevelValue K)) (before after : List (Task S N K)) → seen new ≡ seen old → after ≡ before → SameBag (to_come meaning problem old) (to_come meaning problem new ++ flat_map (task_members meaning problem) (appended before after))
+  pub none-to_come : (old new : List (LevelValue K)) (before after : List (Task N)) → seen new ≡ seen old → after ≡ before → SameBag (to_come meaning problem old) (to_come meaning problem new ++ flat_map (task_members meaning problem) (appended before after))
   none-to_come old new before after same kept =
       let trees = node_tree meaning problem in
-      same-is (sym (ap₂ (λ (ls : List (LevelView N)) (tasks : List (Task S N K)). levels_to_come trees ls ++ flat_map (task_members meaning problem) tasks) same (none-appended before after kept) ∙ append-nil (to_come meaning problem old)))
+      same-is (sym (ap₂ (λ (ls : List (LevelView N)) (tasks : List (Task N)). levels_to_come trees ls ++ flat_map (task_members meaning problem) tasks) same (none-appended before after kept) ∙ append-nil (to_come meaning problem old)))
 
-  pub none-open : (old new : List (LevelValue K)) (before after : List (Task S N K)) → seen new ≡ seen old → after ≡ before → AllOpen meaning problem old → AllOpen meaning problem new × AllByRecursion IsTaskHere (appended before after)
+  pub none-open : (old new : List (LevelValue K)) (before after : List (Task N)) → seen new ≡ seen old → after ≡ before → AllOpen meaning problem old → AllOpen meaning problem new × AllByRecursion IsTaskHere (appended before after)
   none-open old new before after same kept all = (subst (AllByRecursion Open) (sym same) all, subst (AllByRecursion IsTaskHere) (sym (none-appended before after kept)) tt)
 
   -- what a turn that gives a node leaves
-  pub gives-to_come : (old new : List (LevelValue K)) (task : Task S N K) → TopGives (seen old) task.path.numbers task.node (seen new) → to_come meaning problem old ≡ task_members meaning problem task ++ to_come meaning problem new
+  pub gives-to_come : (old new : List (LevelValue K)) (task : Task N) → TopGives (seen old) task.path.numbers task.node (seen new) → to_come meaning problem old ≡ task_members meaning problem task ++ to_come meaning problem new
   gives-to_come old new task turn =
       let trees = node_tree meaning problem in
       ap (levels_to_come trees) turn.old_is
       ∙ to_come-gives trees turn.lower turn.top turn.rest task.path.numbers task.node turn.gives
       ∙ ap (λ ls. task_members meaning problem task ++ levels_to_come trees ls) (sym turn.new_is)
 
-  pub gives-open : IsRanked (meaning.sound problem) (meaning.children problem) (meaning.rank problem) → (old new : List (LevelValue K)) (task : Task S N K) → TopGives (seen old) task.path.numbers task.node (seen new) → AllOpen meaning problem old → AllOpen meaning problem new × IsTaskHere task
+  pub gives-open : IsRanked (meaning.sound problem) (meaning.children problem) (meaning.rank problem) → (old new : List (LevelValue K)) (task : Task N) → TopGives (seen old) task.path.numbers task.node (seen new) → AllOpen meaning problem old → AllOpen meaning problem new × IsTaskHere task
   gives-open ranked old new task turn all =
       let both = AllByRecursion-push Open turn.lower turn.top (subst (AllByRecursion Open) turn.old_is all) in
       let at = open-child ranked turn.top turn.rest task.path.numbers task.node both.1 turn.gives in (
@@ -299,7 +297,7 @@ module _ {S N K : Type 0} (meaning : Ghosts S N K) (problem : S) where
       ∙ ap (λ ns. 2 * length (forest trees 0 ns) + turns_left meaning problem stack + 1) is
 
   -- a turn that gives a node takes two for each node of its tree, and the end of a level takes one
-  pub gives-turns_left : (old new : List (LevelValue K)) (task : Task S N K) → TopGives (seen old) task.path.numbers task.node (seen new) → turns_left meaning problem old ≡ 2 * length (node_tree meaning problem task.node) + turns_left meaning problem new
+  pub gives-turns_left : (old new : List (LevelValue K)) (task : Task N) → TopGives (seen old) task.path.numbers task.node (seen new) → turns_left meaning problem old ≡ 2 * length (node_tree meaning problem task.node) + turns_left meaning problem new
   gives-turns_left old new task turn =
       let trees = node_tree meaning problem in
       ap (turns_of trees) turn.old_is

@@ -17,22 +17,22 @@ numbered-push path k (m ∷ ns) n =
     let same : suc k + length ns ≡ k + suc (length ns) = omega arith in
     ap (λ ps. (path ++ k ∷ []) ∷ ps) (numbered-push path (suc k) ns n ∙ ap (λ i. numbered path (suc k) ns ++ (path ++ i ∷ []) ∷ []) same)
 
-module _ {S N K : Type 0} where
-  pub moves-none : (level : LevelView N) → Moves {S = S} {N = N} {K = K} level [] level
+module _ {N : Type 0} where
+  pub moves-none : (level : LevelView N) → Moves {N = N} level [] level
   moves-none level = record { remaining_is = refl; paths_are = refl; given_is = omega arith; parent_is = refl }
 
   -- one more node
-  pub moves-more : (old mid new : LevelView N) (moved : List (Task S N K)) (task : Task S N K) → Moves old moved mid → Gives mid task.path.numbers task.node new → Moves old (moved ++ task ∷ []) new
+  pub moves-more : (old mid new : LevelView N) (moved : List (Task N)) (task : Task N) → Moves old moved mid → Gives mid task.path.numbers task.node new → Moves old (moved ++ task ∷ []) new
   moves-more old mid new moved task m gives =
-      let nodes : nodes_of (moved ++ task ∷ []) ≡ nodes_of moved ++ task.node ∷ [] = map_push (λ (t : Task S N K). t.node) moved task in
-      let count : length (nodes_of moved) ≡ length moved = length-map moved (λ (t : Task S N K). t.node) in
+      let nodes : nodes_of (moved ++ task ∷ []) ≡ nodes_of moved ++ task.node ∷ [] = map_push (λ (t : Task N). t.node) moved task in
+      let count : length (nodes_of moved) ≡ length moved = length-map moved (λ (t : Task N). t.node) in
       let number : mid.given ≡ old.given + length (nodes_of moved) = omega (arith, m.given_is, count) in
       record {
         remaining_is = m.remaining_is
             ∙ ap (λ ns. nodes_of moved ++ ns) gives.remaining_is
             ∙ sym (append_assoc (nodes_of moved) (task.node ∷ []) new.remaining)
             ∙ ap (λ ns. ns ++ new.remaining) (sym nodes);
-        paths_are = map_push (λ (t : Task S N K). t.path.numbers) moved task
+        paths_are = map_push (λ (t : Task N). t.path.numbers) moved task
             ∙ ap₂ (λ (ps : List (List ℕ)) (p : List ℕ). ps ++ p ∷ []) m.paths_are
             (gives.path_is ∙ ap₂ (λ (p : List ℕ) (i : ℕ). p ++ i ∷ []) m.parent_is number)
             ∙ sym (numbered-push old.parent old.given (nodes_of moved) task.node)
@@ -41,18 +41,18 @@ module _ {S N K : Type 0} where
         parent_is = gives.parent_is ∙ m.parent_is;
       }
 
-  pub moves_to-none : (level : LevelView N) (tasks : List (Task S N K)) → MovesTo level tasks tasks level
+  pub moves_to-none : (level : LevelView N) (tasks : List (Task N)) → MovesTo level tasks tasks level
   moves_to-none level tasks = record { moved = []; after_is = sym (append-nil tasks); moves = moves-none level }
 
-  pub moves_to-same : (old new : LevelView N) (before after : List (Task S N K)) → new ≡ old → after ≡ before → MovesTo old before after new
+  pub moves_to-same : (old new : LevelView N) (before after : List (Task N)) → new ≡ old → after ≡ before → MovesTo old before after new
   moves_to-same old new before after same kept = rw (same, kept) (moves_to-none old before)
 
   -- some nodes, at least one of them
-  pub record MovesSome (old : LevelView N) (before after : List (Task S N K)) (new : LevelView N) : Type 0 where
+  pub record MovesSome (old : LevelView N) (before after : List (Task N)) (new : LevelView N) : Type 0 where
     pub all : MovesTo old before after new
     pub some : 0 < length all.moved
 
-  pub moves_to-more : (old mid new : LevelView N) (before now after : List (Task S N K)) → MovesTo old before now mid → GivesTo mid now after new → MovesSome old before after new
+  pub moves_to-more : (old mid new : LevelView N) (before now after : List (Task N)) → MovesTo old before now mid → GivesTo mid now after new → MovesSome old before after new
   moves_to-more old mid new before now after m more = record {
     all = record {
       moved = m.moved ++ more.task ∷ [];
@@ -63,18 +63,18 @@ module _ {S N K : Type 0} where
   }
 
   -- a first node
-  pub record MovesOne (old : LevelView N) (before after : List (Task S N K)) (new : LevelView N) : Type 0 where
+  pub record MovesOne (old : LevelView N) (before after : List (Task N)) (new : LevelView N) : Type 0 where
     pub all : MovesTo old before after new
     pub one : length all.moved ≡ 1
 
-  pub moves_to-one : (old new : LevelView N) (before after : List (Task S N K)) → GivesTo old before after new → MovesOne old before after new
+  pub moves_to-one : (old new : LevelView N) (before after : List (Task N)) → GivesTo old before after new → MovesOne old before after new
   moves_to-one old new before after first = record {
     all = record { moved = first.task ∷ []; after_is = first.after_is; moves = moves-more old old new [] first.task (moves-none old) first.gives };
     one = refl;
   }
 
   -- where nothing changes any more
-  pub moves_to-ends : (old mid new : LevelView N) (before now after : List (Task S N K)) → MovesSome old before now mid → new ≡ mid → after ≡ now → MovesSome old before after new
+  pub moves_to-ends : (old mid new : LevelView N) (before now after : List (Task N)) → MovesSome old before now mid → new ≡ mid → after ≡ now → MovesSome old before after new
   moves_to-ends old mid new before now after m same kept = rw (same, kept) m
 
 module _ {N : Type 0} where
@@ -95,7 +95,7 @@ module _ {N : Type 0} where
   chunk-all All count rest other some none = (some, none)
 
 -- the level at a place, of which nodes were moved, where those below it have nothing to come
-abbrev pub lowest-at : {S N K X : Type 0} (view : X → LevelView N) (items : List X) (place : ℕ) (within : place < length items) (x : X) (at : x ≡ get_or items place x) (seen : List (LevelView N)) (same : map view items ≡ seen) (y : X) (before after : List (Task S N K)) → AreSpent (take place seen) → MovesTo (view x) before after (view y) → MovesLowest seen before after (map view (set items place y))
+abbrev pub lowest-at : {N X : Type 0} (view : X → LevelView N) (items : List X) (place : ℕ) (within : place < length items) (x : X) (at : x ≡ get_or items place x) (seen : List (LevelView N)) (same : map view items ≡ seen) (y : X) (before after : List (Task N)) → AreSpent (take place seen) → MovesTo (view x) before after (view y) → MovesLowest seen before after (map view (set items place y))
 lowest-at view items place within x at seen same y before after spent moves = record {
   lower = take place seen;
   level = view x;

@@ -33,7 +33,7 @@ module _ {S N K : Type 0} (meaning : Ghosts S N K) (problem : S) where
   node_tree node = tree (meaning.children problem) (meaning.rank problem) node
 
   -- the members of the problem's tree at and below a task
-  abbrev pub task_members : Task S N K → List (Member N)
+  abbrev pub task_members : Task N → List (Member N)
   task_members task = prefixed task.path.numbers (node_tree task.node)
 
   -- the members that a stack has still to come, in preorder

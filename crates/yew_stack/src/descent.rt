@@ -59,7 +59,7 @@ impl<P: Problem> Rung<P> {
         problem: &P,
         path: &Path,
         depth: usize,
-        into: &mut Vec<Task<P>>,
+        into: &mut Vec<Task<P::Node>>,
     ) -> Result<bool, Memory>
         requires root { P.sound problem.now (P.root problem.now) }
         requires sound { AllByRecursion (P.sound problem.now) (P.remaining problem.now self.old.kids) }
@@ -90,7 +90,7 @@ impl<P: Problem> Rung<P> {
         chunk: Chunk,
         path: &Path,
         depth: usize,
-        into: &mut Vec<Task<P>>,
+        into: &mut Vec<Task<P::Node>>,
     ) -> Result<bool, Memory>
         requires root { P.sound problem.now (P.root problem.now) }
         requires sound { AllByRecursion (P.sound problem.now) (P.remaining problem.now self.old.kids) }
@@ -217,7 +217,7 @@ impl<P: Problem> Descent<P> {
         alloc: Global,
         problem: &P,
         chunk: Chunk,
-        into: &mut Vec<Task<P>>,
+        into: &mut Vec<Task<P::Node>>,
     ) -> Result<(), Memory>
         requires root { P.sound problem.now (P.root problem.now) }
         requires sound { AreSound (P.sound problem.now) (levels (P.remaining problem.now) self.old.levels) }

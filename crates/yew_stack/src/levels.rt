@@ -86,7 +86,7 @@ impl<P: Problem> Level<P> {
         alloc: Global,
         problem: &P,
         spares: &mut Vec<Path>,
-    ) -> Result<Option<Task<P>>, Memory>
+    ) -> Result<Option<Task<P::Node>>, Memory>
         requires root { P.sound problem.now (P.root problem.now) }
         requires sound { AllByRecursion (P.sound problem.now) (P.remaining problem.now self.old.kids) }
         requires numbered { IsNumbered (level_of (P.remaining problem.now) self.old) }
@@ -116,7 +116,7 @@ impl<P: Problem> Level<P> {
         alloc: Global,
         problem: &P,
         spares: &mut Vec<Path>,
-        into: &mut Vec<Task<P>>,
+        into: &mut Vec<Task<P::Node>>,
     ) -> Result<bool, Memory>
         requires root { P.sound problem.now (P.root problem.now) }
         requires sound { AllByRecursion (P.sound problem.now) (P.remaining problem.now self.old.kids) }
@@ -144,7 +144,7 @@ impl<P: Problem> Level<P> {
         problem: &P,
         chunk: Chunk,
         spares: &mut Vec<Path>,
-        into: &mut Vec<Task<P>>,
+        into: &mut Vec<Task<P::Node>>,
     ) -> Result<bool, Memory>
         requires root { P.sound problem.now (P.root problem.now) }
         requires sound { AllByRecursion (P.sound problem.now) (P.remaining problem.now self.old.kids) }

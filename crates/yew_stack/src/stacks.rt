@@ -32,7 +32,7 @@ impl<P: Problem> Model for GenStack<P> {
 #[derive(Drop)]
 pub enum Turn<P: Problem> {
     /// Its next node, with its path.
-    Node(Task<P>),
+    Node(Task<P::Node>),
     /// It had nothing to come and was taken off; this was the path of its node.
     Ended(Path),
     /// There is no level.
@@ -117,7 +117,7 @@ impl<P: Problem> GenStack<P> {
         alloc: Global,
         problem: &P,
         chunk: Chunk,
-        into: &mut Vec<Task<P>>,
+        into: &mut Vec<Task<P::Node>>,
     ) -> Result<(), Memory>
         requires root { P.sound problem.now (P.root problem.now) }
         requires sound { AreSound (P.sound problem.now) (levels (P.remaining problem.now) self.old) }

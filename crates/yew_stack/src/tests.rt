@@ -102,7 +102,7 @@ fn opened<P: Problem>(alloc: Global, problem: &P) -> Result<GenStack<P>, Memory>
 fn visited<P: Problem>(
     alloc: Global,
     problem: &P,
-    task: Task<P>,
+    task: Task<P::Node>,
     stack: &mut GenStack<P>,
 ) -> Result<(), Memory>
     requires root { P.sound problem.now (P.root problem.now) }
@@ -153,7 +153,7 @@ fn split<P: Problem>(
     problem: &P,
     chunk: Chunk,
     stack: &mut GenStack<P>,
-    into: &mut Vec<Task<P>>,
+    into: &mut Vec<Task<P::Node>>,
 ) -> Result<(), Memory>
     requires root { P.sound problem.now (P.root problem.now) }
     requires levels_open { AllOpen P.Problem problem.now stack.old }
@@ -163,7 +163,7 @@ fn split<P: Problem>(
 }
 
 /// The tasks have these paths and nodes.
-fn tasks_are(tasks: &[Task<Fan>], wanted: &[(&[u32], u32)]) -> bool {
+fn tasks_are(tasks: &[Task<u32>], wanted: &[(&[u32], u32)]) -> bool {
     tasks.len() == wanted.len()
         && tasks.iter().zip(wanted.iter()).all(|(task, (path, node))| task.path.numbers() == *path
             && task.node == *node)
@@ -354,7 +354,7 @@ fn split_off<P: Problem>(
     problem: &P,
     chunk: Chunk,
     descent: &mut Descent<P>,
-    into: &mut Vec<Task<P>>,
+    into: &mut Vec<Task<P::Node>>,
 ) -> Result<(), Memory>
     requires root { P.sound problem.now (P.root problem.now) }
     requires levels_open { AllOpen P.Problem problem.now descent.old.levels }

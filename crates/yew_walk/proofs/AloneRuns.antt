@@ -44,7 +44,7 @@ AtEach-front P before [] ys a = tt
 AtEach-front P before (x ∷ xs) ys a = (a.0, AtEach-front P (before ++ x ∷ []) xs ys a.1)
 
 -- a seat with the whole share that has offered nothing, a hand that holds nothing, and a log that was fresh
-pub record IsFresh {S N K Sum : Type 0} (none : Sum) (first : Scene S N K Sum (Unit {0})) : Type 0 where
+pub record IsFresh {N Sum : Type 0} (none : Sum) (first : Scene N Sum (Unit {0})) : Type 0 where
   pub none_offered : first.seat.offered ≡ []
   pub whole_share : first.seat.share ≡ first.seat.best.seats
   pub holds_none : first.hand.holds ≡ false
@@ -54,7 +54,7 @@ pub record IsFresh {S N K Sum : Type 0} (none : Sum) (first : Scene S N K Sum (U
   pub first_worker : first.log.number ≡ 1
 
 -- the scene in which one worker begins
-pub fresh-scene : {S N K Sum : Type 0} {none : Sum} {best : BestId} {seat : SeatView} {hand : Hand Sum} {sent : List (Task S N K)} {answers : Option (List Bool)} {log : LogView} → seat ≡ record { best = best; share = 1; read = []; offered = [] } → best.seats ≡ 1 → hand.holds ≡ false → hand.sum ≡ none → IfSome log.told (λ notes. notes ≡ []) → log.totals ≡ no_totals → log.number ≡ 1 → IsFresh none (scene seat hand tt sent answers log)
+pub fresh-scene : {N Sum : Type 0} {none : Sum} {best : BestId} {seat : SeatView} {hand : Hand Sum} {sent : List (Task N)} {answers : Option (List Bool)} {log : LogView} → seat ≡ record { best = best; share = 1; read = []; offered = [] } → best.seats ≡ 1 → hand.holds ≡ false → hand.sum ≡ none → IfSome log.told (λ notes. notes ≡ []) → log.totals ≡ no_totals → log.number ≡ 1 → IsFresh none (scene seat hand tt sent answers log)
 fresh-scene seat_is one_seat holds_none sum_is none_told no_totals_yet first_worker = record {
   none_offered = ap (λ (s : SeatView). s.offered) seat_is;
   whole_share = ap (λ (s : SeatView). s.share) seat_is ∙ sym one_seat ∙ ap (λ (s : SeatView). s.best.seats) (sym seat_is);
@@ -69,10 +69,10 @@ module _ {S N K Sum : Type 0} (meaning : Ghosts S N K) (problem : S) (join : Sum
   abbrev t : SearchTree N
   t = search_tree meaning problem
 
-  abbrev Walked : (List OutletCall → Type 0) → Scene S N K Sum (Unit {0}) → Scene S N K Sum (Unit {0}) → Type 0
+  abbrev Walked : (List OutletCall → Type 0) → Scene N Sum (Unit {0}) → Scene N Sum (Unit {0}) → Type 0
   Walked = IsWalked meaning problem Plain join of plain_policy [] none
 
-  module _ (first now : Scene S N K Sum (Unit {0})) (fresh : IsFresh none first) where
+  module _ (first now : Scene N Sum (Unit {0})) (fresh : IsFresh none first) where
     module _ {did : List OutletCall → Type 0} (w : Walked did first now) where
       notes-are : w.notes ≡ seq_log t 0
       notes-are = plain_walk-seq_log t (meaning.ranked problem) root w.answers w.notes first.seat now.seat w.walk w.goes fresh.none_offered fresh.whole_share

@@ -75,7 +75,7 @@ module _ {S N K : Type 0} (meaning : Ghosts S N K) (problem : S) where
   Falls = IsRanked (meaning.sound problem) (meaning.children problem) (meaning.rank problem)
 
   -- a split takes no turn back
-  off-turns_left : (old new : List (LevelValue K)) (tasks : List (Task S N K)) → IsSplitOff meaning problem old tasks new → turns_left meaning problem new ≤ turns_left meaning problem old
+  off-turns_left : (old new : List (LevelValue K)) (tasks : List (Task N)) → IsSplitOff meaning problem old tasks new → turns_left meaning problem new ≤ turns_left meaning problem old
   off-turns_left old new tasks off =
       let same = off.to_come_is.weighs (λ m. 1) in
       let a = weighs-one (to_come meaning problem old) in
@@ -88,7 +88,7 @@ module _ {S N K : Type 0} (meaning : Ghosts S N K) (problem : S) where
       lengths (inl n) = ap length n.1
       lengths (inr m) = ap length m.new_is ∙ length-append m.lower (m.rest ∷ m.upper) ∙ sym (length-append m.lower (m.level ∷ m.upper)) ∙ sym (ap length m.old_is)
 
-  pub asked-turns_left : {Q : Type 0} {did : List OutletCall → Type 0} (policy : PolicyMeaning Q) (input : PolicyInput) (before after : Q) (old new : List (LevelValue K)) (old_log new_log : LogView) (old_sent new_sent : List (Task S N K)) → IsAsked meaning problem policy input did before old old_log old_sent after new new_log new_sent → turns_left meaning problem new ≤ turns_left meaning problem old
+  pub asked-turns_left : {Q : Type 0} {did : List OutletCall → Type 0} (policy : PolicyMeaning Q) (input : PolicyInput) (before after : Q) (old new : List (LevelValue K)) (old_log new_log : LogView) (old_sent new_sent : List (Task N)) → IsAsked meaning problem policy input did before old old_log old_sent after new new_log new_sent → turns_left meaning problem new ≤ turns_left meaning problem old
   asked-turns_left policy input before after old new old_log new_log old_sent new_sent a =
       elim a.act_done [
         | inl n ↦ let e = ap (turns_left meaning problem) n.1 in omega (arith, e)
@@ -96,7 +96,7 @@ module _ {S N K : Type 0} (meaning : Ghosts S N K) (problem : S) where
       ]
 
   -- the levels stay open
-  pub asked-open : {Q : Type 0} {did : List OutletCall → Type 0} (policy : PolicyMeaning Q) (input : PolicyInput) (before after : Q) (old new : List (LevelValue K)) (old_log new_log : LogView) (old_sent new_sent : List (Task S N K)) → IsAsked meaning problem policy input did before old old_log old_sent after new new_log new_sent → AllOpen meaning problem old → AllOpen meaning problem new
+  pub asked-open : {Q : Type 0} {did : List OutletCall → Type 0} (policy : PolicyMeaning Q) (input : PolicyInput) (before after : Q) (old new : List (LevelValue K)) (old_log new_log : LogView) (old_sent new_sent : List (Task N)) → IsAsked meaning problem policy input did before old old_log old_sent after new new_log new_sent → AllOpen meaning problem old → AllOpen meaning problem new
   asked-open policy input before after old new old_log new_log old_sent new_sent a opened =
       elim a.act_done [
         | inl n ↦ subst (AllOpen meaning problem) (sym n.1) opened
@@ -114,7 +114,7 @@ module _ {S N K : Type 0} (meaning : Ghosts S N K) (problem : S) where
       omega (arith, same, unfolds)
   enters-turns_left keying join of ranked Ended path node is old_seat new_seat old_hand new_hand old_log new_log old new e = absurd e
 
-  pub node-turns_left : {Sum : Type 0} (keying : Keying) (join : Sum → Sum → Sum) (of : N → ℕ → Sum) → Falls → (event : Event) (given : Task S N K) → IsTask meaning problem given.path.numbers given.node → (old_seat new_seat : SeatView) (old_hand new_hand : Hand Sum) (old_log new_log : LogView) (old mid new : List (LevelValue K)) → TopGives (levels (meaning.remaining problem) old) given.path.numbers given.node (levels (meaning.remaining problem) mid) → Enters meaning problem keying given.path.numbers given.node join of event old_seat old_hand old_log mid new_seat new_hand new_log new → turns_left meaning problem new < turns_left meaning problem old
+  pub node-turns_left : {Sum : Type 0} (keying : Keying) (join : Sum → Sum → Sum) (of : N → ℕ → Sum) → Falls → (event : Event) (given : Task N) → IsTask meaning problem given.path.numbers given.node → (old_seat new_seat : SeatView) (old_hand new_hand : Hand Sum) (old_log new_log : LogView) (old mid new : List (LevelValue K)) → TopGives (levels (meaning.remaining problem) old) given.path.numbers given.node (levels (meaning.remaining problem) mid) → Enters meaning problem keying given.path.numbers given.node join of event old_seat old_hand old_log mid new_seat new_hand new_log new → turns_left meaning problem new < turns_left meaning problem old
   node-turns_left keying join of ranked event given is old_seat new_seat old_hand new_hand old_log new_log old mid new turn e =
       let a = gives-turns_left meaning problem old mid given turn in
       let b = enters-turns_left keying join of ranked event given.path.numbers given.node is old_seat new_seat old_hand new_hand old_log new_log mid new e in
@@ -161,7 +161,7 @@ module _ {S N K Sum Q : Type 0} (meaning : Ghosts S N K) (problem : S) (keying :
   first-visit (Ranked rank) plain ranked root first now after node worth held is same of_root nothing whole v = absurd (cc)
 
   -- the task's node is next, and nothing was done yet
-  pub awaits-start : {did : List OutletCall → Type 0} → IsRanked (meaning.sound problem) (meaning.children problem) (meaning.rank problem) → meaning.sound problem (meaning.root problem) → (first now : Scene S N K Sum Q) (node : N) → IsTask meaning problem task node → now.seat ≡ first.seat → now.hand ≡ first.hand → now.sent ≡ first.sent → now.answers ≡ first.answers → now.state ≡ policy.start first.state → now.log ≡ log_after first.log (taken task ∷ []) → did [] → AwaitsNode meaning problem keying join of policy task did first now [] task node
+  pub awaits-start : {did : List OutletCall → Type 0} → IsRanked (meaning.sound problem) (meaning.children problem) (meaning.rank problem) → meaning.sound problem (meaning.root problem) → (first now : Scene N Sum Q) (node : N) → IsTask meaning problem task node → now.seat ≡ first.seat → now.hand ≡ first.hand → now.sent ≡ first.sent → now.answers ≡ first.answers → now.state ≡ policy.start first.state → now.log ≡ log_after first.log (taken task ∷ []) → did [] → AwaitsNode meaning problem keying join of policy task did first now [] task node
   awaits-start ranked root first now node is same_seat same_hand same_sent same_answers started logged none = record {
     notes = [];
     frames = [];
@@ -188,7 +188,7 @@ module _ {S N K Sum Q : Type 0} (meaning : Ghosts S N K) (problem : S) (keying :
   }
 
   -- with no level left, the walk is a whole segment
-  pub walking-walked : {fits : Sum → Type 0} {none : Sum} {did : List OutletCall → Type 0} → IsTally fits join none → ((n : N) (depth : ℕ) → fits (of n depth)) → (first now : Scene S N K Sum Q) (stack : List (LevelValue K)) → fits first.hand.sum → stack ≡ [] → IsWalking meaning problem keying join of policy task did first now stack → IsWalked meaning problem keying join of policy task none did first now
+  pub walking-walked : {fits : Sum → Type 0} {none : Sum} {did : List OutletCall → Type 0} → IsTally fits join none → ((n : N) (depth : ℕ) → fits (of n depth)) → (first now : Scene N Sum Q) (stack : List (LevelValue K)) → fits first.hand.sum → stack ≡ [] → IsWalking meaning problem keying join of policy task did first now stack → IsWalked meaning problem keying join of policy task none did first now
   walking-walked {fits} {none} {did} tally of_fits first now stack fit empty w = record {
     notes = taken task ∷ w.notes;
     answers = w.answers;

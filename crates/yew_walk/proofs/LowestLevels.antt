@@ -106,14 +106,14 @@ spent-lowest : {N : Type 0} (lower : List (LevelView N)) (level : LevelView N) (
 spent-lowest [] level upper s = refl
 spent-lowest (l ∷ lower) level upper s = ap (λ ns. or_else (numbered l.parent l.given ns) (left_of_lowest (lower ++ level ∷ upper))) s.0 ∙ spent-lowest lower level upper s.1
 
-module _ {S N K : Type 0} where
-  pub appended-is : (before after moved : List (Task S N K)) → after ≡ before ++ moved → appended before after ≡ moved
+module _ {N : Type 0} where
+  pub appended-is : (before after moved : List (Task N)) → after ≡ before ++ moved → appended before after ≡ moved
   appended-is before after moved e = ap (drop (length before)) e ∙ drop-append_seam before moved
 
-  appended-none : (before after : List (Task S N K)) → after ≡ before → appended before after ≡ []
+  appended-none : (before after : List (Task N)) → after ≡ before → appended before after ≡ []
   appended-none before after e = appended-is before after [] (e ∙ sym (append-nil before))
 
-  chunk-part : (chunk : Chunk) (moved : List (Task S N K)) (level rest : LevelView N) (others : List (List ℕ)) → Moves level moved rest → IsChunk chunk (length moved) rest → paths_of moved ≡ part_of (part_of_chunk chunk) (or_else (left_of level) others)
+  chunk-part : (chunk : Chunk) (moved : List (Task N)) (level rest : LevelView N) (others : List (List ℕ)) → Moves level moved rest → IsChunk chunk (length moved) rest → paths_of moved ≡ part_of (part_of_chunk chunk) (or_else (left_of level) others)
   chunk-part One [] level rest others m chunk = absurd (omega (arith, chunk))
   chunk-part All [] level rest others m chunk = absurd (omega (arith, chunk.0))
   chunk-part One (a ∷ b ∷ tasks) level rest others m chunk = absurd (omega (arith, chunk))
@@ -124,7 +124,7 @@ module _ {S N K : Type 0} where
       ∙ ap (λ ns. or_else (numbered level.parent level.given ns) others) (sym (m.remaining_is ∙ ap (λ ns. nodes_of (task ∷ tasks) ++ ns) chunk.1 ∙ append-nil (nodes_of (task ∷ tasks))))
 
   -- what a split moves is a part of what is left of the lowest level
-  pub splits-part : (chunk : Chunk) (old : List (LevelView N)) (before after : List (Task S N K)) (new : List (LevelView N)) → Splits chunk old before after new → paths_of (appended before after) ≡ part_of (part_of_chunk chunk) (left_of_lowest old)
+  pub splits-part : (chunk : Chunk) (old : List (LevelView N)) (before after : List (Task N)) (new : List (LevelView N)) → Splits chunk old before after new → paths_of (appended before after) ≡ part_of (part_of_chunk chunk) (left_of_lowest old)
   splits-part One old before after new (inl h) = ap paths_of (appended-none before after h.1) ∙ ap (part_of one) (sym (spent-left old h.0))
   splits-part All old before after new (inl h) = ap paths_of (appended-none before after h.1) ∙ ap (part_of all) (sym (spent-left old h.0))
   splits-part chunk old before after new (inr h) =
@@ -134,7 +134,7 @@ module _ {S N K : Type 0} where
       ∙ ap (part_of (part_of_chunk chunk)) (sym (ap left_of_lowest m.old_is ∙ spent-lowest m.lower m.level m.upper m.spent))
 
   module _ (t : SearchTree N) (made : List ℕ → Note) (path_is : (p : List ℕ) → path_of (made p) ≡ p) (no_visit : (p : List ℕ) → visit_in (made p) ≡ []) (no_end : (p : List ℕ) → ended_in (made p) ≡ []) where
-    dealt-moves : (moved : List (Task S N K)) (notes : List Note) (lower upper : List (LevelView N)) (level rest : LevelView N) → Moves level moved rest → IsDealt t notes (lower ++ level ∷ upper) → IsDealt t (notes ++ map made (paths_of moved)) (lower ++ rest ∷ upper)
+    dealt-moves : (moved : List (Task N)) (notes : List Note) (lower upper : List (LevelView N)) (level rest : LevelView N) → Moves level moved rest → IsDealt t notes (lower ++ level ∷ upper) → IsDealt t (notes ++ map made (paths_of moved)) (lower ++ rest ∷ upper)
     dealt-moves [] notes lower upper level rest m d =
         let same = level_is rest level (sym m.parent_is) (omega (arith, m.given_is)) m.remaining_is in
         subst (λ ns. IsDealt t ns (lower ++ rest ∷ upper)) (sym (append-nil notes)) (subst (λ (l : LevelView N). IsDealt t notes (lower ++ l ∷ upper)) same d)
@@ -150,43 +150,43 @@ module _ {S N K : Type 0} where
         (dealt-moves tasks (notes ++ made path ∷ []) lower upper mid rest more
         (dealt-gives t notes (made path) lower upper level mid path task.node gives (path_is path) (no_visit path) (no_end path) d))
 
-    pub dealt-moves_lowest : (notes : List Note) (old new : List (LevelView N)) (before after : List (Task S N K)) → MovesLowest old before after new → IsDealt t notes old → IsDealt t (notes ++ map made (paths_of (appended before after))) new
+    pub dealt-moves_lowest : (notes : List Note) (old new : List (LevelView N)) (before after : List (Task N)) → MovesLowest old before after new → IsDealt t notes old → IsDealt t (notes ++ map made (paths_of (appended before after))) new
     dealt-moves_lowest notes old new before after m d =
         let moved = appended-is before after m.moves.moved m.moves.after_is in
-        subst (λ (tasks : List (Task S N K)). IsDealt t (notes ++ map made (paths_of tasks)) new) (sym moved)
+        subst (λ (tasks : List (Task N)). IsDealt t (notes ++ map made (paths_of tasks)) new) (sym moved)
         (subst (IsDealt t (notes ++ map made (paths_of m.moves.moved))) (sym m.new_is)
         (dealt-moves m.moves.moved notes m.lower m.upper m.level m.rest m.moves.moves (subst (IsDealt t notes) m.old_is d)))
 
-    pub dealt-splits : (chunk : Chunk) (notes : List Note) (old new : List (LevelView N)) (before after : List (Task S N K)) → Splits chunk old before after new → IsDealt t notes old → IsDealt t (notes ++ map made (paths_of (appended before after))) new
+    pub dealt-splits : (chunk : Chunk) (notes : List Note) (old new : List (LevelView N)) (before after : List (Task N)) → Splits chunk old before after new → IsDealt t notes old → IsDealt t (notes ++ map made (paths_of (appended before after))) new
     dealt-splits chunk notes old new before after (inl h) d =
         subst (IsDealt t (notes ++ map made (paths_of (appended before after)))) (sym h.2)
-        (subst (λ ns. IsDealt t ns old) (sym (ap (λ (tasks : List (Task S N K)). notes ++ map made (paths_of tasks)) (appended-none before after h.1) ∙ append-nil notes)) d)
+        (subst (λ ns. IsDealt t ns old) (sym (ap (λ (tasks : List (Task N)). notes ++ map made (paths_of tasks)) (appended-none before after h.1) ∙ append-nil notes)) d)
     dealt-splits chunk notes old new before after (inr h) d = dealt-moves_lowest notes old new before after h.0 d
 
   module _ (t : SearchTree N) where
     -- nodes of the lowest level are moved, and are noted as spawned
-    pub dealt-spawned : (notes : List Note) (old new : List (LevelView N)) (before after : List (Task S N K)) → MovesLowest old before after new → IsDealt t notes old → IsDealt t (notes ++ map spawned (paths_of (appended before after))) new
+    pub dealt-spawned : (notes : List Note) (old new : List (LevelView N)) (before after : List (Task N)) → MovesLowest old before after new → IsDealt t notes old → IsDealt t (notes ++ map spawned (paths_of (appended before after))) new
     dealt-spawned notes old new before after m d = dealt-moves_lowest t spawned (λ p. refl) (λ p. refl) (λ p. refl) notes old new before after m d
 
     -- likewise as handed
-    pub dealt-handed : (notes : List Note) (old new : List (LevelView N)) (before after : List (Task S N K)) → MovesLowest old before after new → IsDealt t notes old → IsDealt t (notes ++ map handed (paths_of (appended before after))) new
+    pub dealt-handed : (notes : List Note) (old new : List (LevelView N)) (before after : List (Task N)) → MovesLowest old before after new → IsDealt t notes old → IsDealt t (notes ++ map handed (paths_of (appended before after))) new
     dealt-handed notes old new before after m d = dealt-moves_lowest t handed (λ p. refl) (λ p. refl) (λ p. refl) notes old new before after m d
 
     -- a chunk is split off, and its tasks are noted as spawned: these are the entries that the act leaves
-    pub dealt-splits_spawned : (chunk : Chunk) (notes : List Note) (old new : List (LevelView N)) (before after : List (Task S N K)) → Splits chunk old before after new → IsDealt t notes old → IsDealt t (notes ++ act_notes (spawn (part_of_chunk chunk)) (lowest_left t notes)) new
+    pub dealt-splits_spawned : (chunk : Chunk) (notes : List Note) (old new : List (LevelView N)) (before after : List (Task N)) → Splits chunk old before after new → IsDealt t notes old → IsDealt t (notes ++ act_notes (spawn (part_of_chunk chunk)) (lowest_left t notes)) new
     dealt-splits_spawned chunk notes old new before after s d =
         subst (λ ps. IsDealt t (notes ++ map spawned ps) new)
         (splits-part chunk old before after new s ∙ ap (part_of (part_of_chunk chunk)) (sym (dealt-lowest_left t notes old d)))
         (dealt-splits t spawned (λ p. refl) (λ p. refl) (λ p. refl) chunk notes old new before after s d)
 
     -- likewise as handed
-    pub dealt-splits_handed : (chunk : Chunk) (notes : List Note) (old new : List (LevelView N)) (before after : List (Task S N K)) → Splits chunk old before after new → IsDealt t notes old → IsDealt t (notes ++ act_notes (hand (part_of_chunk chunk)) (lowest_left t notes)) new
+    pub dealt-splits_handed : (chunk : Chunk) (notes : List Note) (old new : List (LevelView N)) (before after : List (Task N)) → Splits chunk old before after new → IsDealt t notes old → IsDealt t (notes ++ act_notes (hand (part_of_chunk chunk)) (lowest_left t notes)) new
     dealt-splits_handed chunk notes old new before after s d =
         subst (λ ps. IsDealt t (notes ++ map handed ps) new)
         (splits-part chunk old before after new s ∙ ap (part_of (part_of_chunk chunk)) (sym (dealt-lowest_left t notes old d)))
         (dealt-splits t handed (λ p. refl) (λ p. refl) (λ p. refl) chunk notes old new before after s d)
 
     -- the paths of the tasks that a split moves are those that the act takes
-    pub splits-lowest_left : (chunk : Chunk) (notes : List Note) (old new : List (LevelView N)) (before after : List (Task S N K)) → Splits chunk old before after new → IsDealt t notes old → paths_of (appended before after) ≡ part_of (part_of_chunk chunk) (lowest_left t notes)
+    pub splits-lowest_left : (chunk : Chunk) (notes : List Note) (old new : List (LevelView N)) (before after : List (Task N)) → Splits chunk old before after new → IsDealt t notes old → paths_of (appended before after) ≡ part_of (part_of_chunk chunk) (lowest_left t notes)
     splits-lowest_left chunk notes old new before after s d =
         splits-part chunk old before after new s ∙ ap (part_of (part_of_chunk chunk)) (sym (dealt-lowest_left t notes old d))

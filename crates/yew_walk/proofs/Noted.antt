@@ -24,19 +24,19 @@ refuses-notes log path paths Memory r = tt
 refuses-notes log path paths (AuditFull worker entries numbers) r = r
 refuses-notes log path paths (TooManyTasks number) r = absurd r
 
-module _ {S N K : Type 0} (tasks : List (Task S N K)) where
-  abbrev path_of : Task S N K → List ℕ
+module _ {N : Type 0} (tasks : List (Task N)) where
+  abbrev path_of : Task N → List ℕ
   path_of task = task.path.numbers
 
-  paths-take : (count : ℕ) (task : Task S N K) → count < length tasks → task ≡ slice_index_or tasks count task → take (suc count) (paths_of tasks) ≡ take count (paths_of tasks) ++ task.path.numbers ∷ []
+  paths-take : (count : ℕ) (task : Task N) → count < length tasks → task ≡ slice_index_or tasks count task → take (suc count) (paths_of tasks) ≡ take count (paths_of tasks) ++ task.path.numbers ∷ []
   paths-take count task below is =
       take-map path_of (suc count) tasks
       ∙ ap (map path_of) (take-suc tasks count task below)
       ∙ map-append path_of (take count tasks) (slice_index_or tasks count task ∷ [])
       ∙ ap (λ ps. ps ++ path_of (slice_index_or tasks count task) ∷ []) (sym (take-map path_of count tasks))
-      ∙ ap (λ (u : Task S N K). take count (paths_of tasks) ++ path_of u ∷ []) (sym is)
+      ∙ ap (λ (u : Task N). take count (paths_of tasks) ++ path_of u ∷ []) (sym is)
 
-  pub noted-next : (old now next : LogView) (what : What) (count : ℕ) (task : Task S N K) → count < length tasks → task ≡ slice_index_or tasks count task → HasNoted old what (paths_of tasks) count now → next ≡ noted now what task.path.numbers 0 0 → IsWithin next.told → HasNoted old what (paths_of tasks) (count + 1) next
+  pub noted-next : (old now next : LogView) (what : What) (count : ℕ) (task : Task N) → count < length tasks → task ≡ slice_index_or tasks count task → HasNoted old what (paths_of tasks) count now → next ≡ noted now what task.path.numbers 0 0 → IsWithin next.told → HasNoted old what (paths_of tasks) (count + 1) next
   noted-next old now next what count task below is h e within = record {
     log_is = e
         ∙ ap (λ log. noted log what task.path.numbers 0 0) h.log_is
@@ -51,7 +51,7 @@ module _ {S N K : Type 0} (tasks : List (Task S N K)) where
       let same = length-map tasks path_of in
       h.log_is ∙ ap (all_noted old what) (take_all count (paths_of tasks) (omega (arith, same, past)))
 
-  pub noted-stops : (old now next : LogView) (what : What) (count : ℕ) (task : Task S N K) (fault : SearchFault) → count < length tasks → task ≡ slice_index_or tasks count task → HasNoted old what (paths_of tasks) count now → next ≡ now → RefusesNote now task.path.numbers fault → StopsNoting old what (paths_of tasks) fault next
+  pub noted-stops : (old now next : LogView) (what : What) (count : ℕ) (task : Task N) (fault : SearchFault) → count < length tasks → task ≡ slice_index_or tasks count task → HasNoted old what (paths_of tasks) count now → next ≡ now → RefusesNote now task.path.numbers fault → StopsNoting old what (paths_of tasks) fault next
   noted-stops old now next what count task fault below is h same r =
       let after = map path_of (drop (suc count) tasks) in
       record {
@@ -60,7 +60,7 @@ module _ {S N K : Type 0} (tasks : List (Task S N K)) where
         paths_are = ap (map path_of) (sym (take-append-drop count tasks))
             ∙ map-append path_of (take count tasks) (drop count tasks)
             ∙ ap₂ (λ (xs ys : List (List ℕ)). xs ++ ys) (sym (take-map path_of count tasks))
-            (ap (map path_of) (drop-cons tasks count task below) ∙ ap (λ (u : Task S N K). path_of u ∷ after) (sym is));
+            (ap (map path_of) (drop-cons tasks count task below) ∙ ap (λ (u : Task N). path_of u ∷ after) (sym is));
         log_is = same ∙ h.log_is;
         cause = subst (λ log. RefusesNotes log (task.path.numbers ∷ after) fault) (sym same) (refuses-notes now task.path.numbers after fault r);
       }

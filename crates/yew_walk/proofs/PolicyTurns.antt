@@ -31,17 +31,16 @@ module _ {N Q : Type 0} (t : SearchTree N) (meaning : PolicyMeaning Q) (state : 
   goes_on-on notes answers note wanted input now ls told has state_is act_is dealt =
       goes_on notes answers note wanted input now on [] ls told has state_is act_is refl (subst (λ ns. IsDealt t ns ls) (sym (append-nil (notes ++ note ∷ []))) dealt)
 
-  module _ {S K : Type 0} where
-    -- the policy asks for tasks to be spawned, and a chunk of the lowest level is split off
-    pub goes_on-spawn : (chunk : Chunk) (notes : List Note) (answers : List Bool) (note : Note) (wanted : Bool) (input : PolicyInput) (now : Q) (old new : List (LevelView N)) (before after : List (Task S N K)) → input_of note wanted ≡ input ∷ [] → HasPolicy t meaning state answers notes → policy_state meaning state notes answers ≡ now → meaning.act now input ≡ spawn (part_of_chunk chunk) → IsDealt t (notes ++ note ∷ []) old → Splits chunk old before after new → HasGoneOn t meaning state (notes ++ note ∷ map spawned (paths_of (appended before after))) (answers ++ wanted ∷ []) new (meaning.after now input)
-    goes_on-spawn chunk notes answers note wanted input now old new before after told has state_is act_is dealt splits =
-        let group = ap (map spawned) (splits-lowest_left t chunk (notes ++ note ∷ []) old new before after splits dealt) in
-        goes_on notes answers note wanted input now (spawn (part_of_chunk chunk)) (map spawned (paths_of (appended before after))) new told has state_is act_is group
-        (subst (λ g. IsDealt t ((notes ++ note ∷ []) ++ g) new) (sym group) (dealt-splits_spawned t chunk (notes ++ note ∷ []) old new before after splits dealt))
+  -- the policy asks for tasks to be spawned, and a chunk of the lowest level is split off
+  pub goes_on-spawn : (chunk : Chunk) (notes : List Note) (answers : List Bool) (note : Note) (wanted : Bool) (input : PolicyInput) (now : Q) (old new : List (LevelView N)) (before after : List (Task N)) → input_of note wanted ≡ input ∷ [] → HasPolicy t meaning state answers notes → policy_state meaning state notes answers ≡ now → meaning.act now input ≡ spawn (part_of_chunk chunk) → IsDealt t (notes ++ note ∷ []) old → Splits chunk old before after new → HasGoneOn t meaning state (notes ++ note ∷ map spawned (paths_of (appended before after))) (answers ++ wanted ∷ []) new (meaning.after now input)
+  goes_on-spawn chunk notes answers note wanted input now old new before after told has state_is act_is dealt splits =
+      let group = ap (map spawned) (splits-lowest_left t chunk (notes ++ note ∷ []) old new before after splits dealt) in
+      goes_on notes answers note wanted input now (spawn (part_of_chunk chunk)) (map spawned (paths_of (appended before after))) new told has state_is act_is group
+      (subst (λ g. IsDealt t ((notes ++ note ∷ []) ++ g) new) (sym group) (dealt-splits_spawned t chunk (notes ++ note ∷ []) old new before after splits dealt))
 
-    -- likewise to be handed over
-    pub goes_on-hand : (chunk : Chunk) (notes : List Note) (answers : List Bool) (note : Note) (wanted : Bool) (input : PolicyInput) (now : Q) (old new : List (LevelView N)) (before after : List (Task S N K)) → input_of note wanted ≡ input ∷ [] → HasPolicy t meaning state answers notes → policy_state meaning state notes answers ≡ now → meaning.act now input ≡ hand (part_of_chunk chunk) → IsDealt t (notes ++ note ∷ []) old → Splits chunk old before after new → HasGoneOn t meaning state (notes ++ note ∷ map handed (paths_of (appended before after))) (answers ++ wanted ∷ []) new (meaning.after now input)
-    goes_on-hand chunk notes answers note wanted input now old new before after told has state_is act_is dealt splits =
-        let group = ap (map handed) (splits-lowest_left t chunk (notes ++ note ∷ []) old new before after splits dealt) in
-        goes_on notes answers note wanted input now (hand (part_of_chunk chunk)) (map handed (paths_of (appended before after))) new told has state_is act_is group
-        (subst (λ g. IsDealt t ((notes ++ note ∷ []) ++ g) new) (sym group) (dealt-splits_handed t chunk (notes ++ note ∷ []) old new before after splits dealt))
+  -- likewise to be handed over
+  pub goes_on-hand : (chunk : Chunk) (notes : List Note) (answers : List Bool) (note : Note) (wanted : Bool) (input : PolicyInput) (now : Q) (old new : List (LevelView N)) (before after : List (Task N)) → input_of note wanted ≡ input ∷ [] → HasPolicy t meaning state answers notes → policy_state meaning state notes answers ≡ now → meaning.act now input ≡ hand (part_of_chunk chunk) → IsDealt t (notes ++ note ∷ []) old → Splits chunk old before after new → HasGoneOn t meaning state (notes ++ note ∷ map handed (paths_of (appended before after))) (answers ++ wanted ∷ []) new (meaning.after now input)
+  goes_on-hand chunk notes answers note wanted input now old new before after told has state_is act_is dealt splits =
+      let group = ap (map handed) (splits-lowest_left t chunk (notes ++ note ∷ []) old new before after splits dealt) in
+      goes_on notes answers note wanted input now (hand (part_of_chunk chunk)) (map handed (paths_of (appended before after))) new told has state_is act_is group
+      (subst (λ g. IsDealt t ((notes ++ note ∷ []) ++ g) new) (sym group) (dealt-splits_handed t chunk (notes ++ note ∷ []) old new before after splits dealt))

@@ -56,10 +56,10 @@ module _ {S N K Sum Q : Type 0} (meaning : Ghosts S N K) (problem : S) (keying :
   abbrev UnderWay : SeatView → SeatView → List Note → List Frame → List (LevelView N) → List (List ℕ) → Type 0
   UnderWay = IsUnderWay meaning problem keying task
 
-  abbrev IsHere : Task S N K → Type 0
+  abbrev IsHere : Task N → Type 0
   IsHere task' = IsTask meaning problem task'.path.numbers task'.node
 
-  abbrev Refused : Scene S N K Sum Q → Scene S N K Sum Q → SearchFault → Type 0
+  abbrev Refused : Scene N Sum Q → Scene N Sum Q → SearchFault → Type 0
   Refused = IsRefused meaning problem keying join of policy task
 
   -- what entries say of a segment that was broken off
@@ -79,7 +79,7 @@ module _ {S N K Sum Q : Type 0} (meaning : Ghosts S N K) (problem : S) (keying :
   prefix-of notes ls of_root s = let p = sequence-prefix t notes ls s in (p.0, p.1 ∙ ap (λ q. (taken q ∷ notes) ++ p.0) (sym of_root))
 
   -- the Taken entry was refused
-  pub taken-stops : IsRanked (meaning.sound problem) (meaning.children problem) (meaning.rank problem) → meaning.sound problem (meaning.root problem) → IsSome (at_path t task) → (first now : Scene S N K Sum Q) (fault : SearchFault) → now.seat ≡ first.seat → now.sent ≡ first.sent → now.log ≡ first.log → RefusesNote first.log task fault → Refused first now fault
+  pub taken-stops : IsRanked (meaning.sound problem) (meaning.children problem) (meaning.rank problem) → meaning.sound problem (meaning.root problem) → IsSome (at_path t task) → (first now : Scene N Sum Q) (fault : SearchFault) → now.seat ≡ first.seat → now.sent ≡ first.sent → now.log ≡ first.log → RefusesNote first.log task fault → Refused first now fault
   taken-stops ranked root there first now fault same_seat same_sent same_log refused = record {
     notes = [];
     ahead = taken task ∷ [];
@@ -119,7 +119,7 @@ module _ {S N K Sum Q : Type 0} (meaning : Ghosts S N K) (problem : S) (keying :
       cause-of (TooManyTasks number) r = absurd r
 
   -- memory ran out between two turns
-  pub walking-stops : {did : List OutletCall → Type 0} → IsRanked (meaning.sound problem) (meaning.children problem) (meaning.rank problem) → meaning.sound problem (meaning.root problem) → (first now : Scene S N K Sum Q) (stack : List (LevelValue K)) → IsWalking meaning problem keying join of policy task did first now stack → Refused first now Memory
+  pub walking-stops : {did : List OutletCall → Type 0} → IsRanked (meaning.sound problem) (meaning.children problem) (meaning.rank problem) → meaning.sound problem (meaning.root problem) → (first now : Scene N Sum Q) (stack : List (LevelValue K)) → IsWalking meaning problem keying join of policy task did first now stack → Refused first now Memory
   walking-stops ranked root first now stack w =
       let short = short-underway ranked root first.seat now.seat w.notes w.frames (levels (meaning.remaining problem) stack) [] w.way in
       let same = sym (append-nil (taken task ∷ w.notes)) in
@@ -167,7 +167,7 @@ module _ {S N K Sum Q : Type 0} (meaning : Ghosts S N K) (problem : S) (keying :
   note-cause (AuditFull worker entries numbers) old new note path is same r = subst (λ log. IsCause (AuditFull worker entries numbers) log (note ∷ [])) (sym same) (subst (λ p. RefusesNote old p (AuditFull worker entries numbers)) (sym is) r)
   note-cause (TooManyTasks number) old new note path is same r = absurd r
 
-  pub awaits-stops : {did : List OutletCall → Type 0} → IsRanked (meaning.sound problem) (meaning.children problem) (meaning.rank problem) → meaning.sound problem (meaning.root problem) → (first now after : Scene S N K Sum Q) (stack : List (LevelValue K)) (path : List ℕ) (node : N) (fault : SearchFault) → IsTask meaning problem path node → AwaitsNode meaning problem keying join of policy task did first now stack path node → StopsEntering meaning problem keying path node fault now.seat now.log after.seat after.log → after.sent ≡ now.sent → Refused first after fault
+  pub awaits-stops : {did : List OutletCall → Type 0} → IsRanked (meaning.sound problem) (meaning.children problem) (meaning.rank problem) → meaning.sound problem (meaning.root problem) → (first now after : Scene N Sum Q) (stack : List (LevelValue K)) (path : List ℕ) (node : N) (fault : SearchFault) → IsTask meaning problem path node → AwaitsNode meaning problem keying join of policy task did first now stack path node → StopsEntering meaning problem keying path node fault now.seat now.log after.seat after.log → after.sent ≡ now.sent → Refused first after fault
   awaits-stops ranked root first now after stack path node fault is a s same_sent = by s.log_is
     where
       ls : List (LevelView N)
@@ -228,7 +228,7 @@ module _ {S N K Sum Q : Type 0} (meaning : Ghosts S N K) (problem : S) (keying :
           }
 
   -- the end of the highest level was refused
-  pub ends-stops : {did : List OutletCall → Type 0} → IsRanked (meaning.sound problem) (meaning.children problem) (meaning.rank problem) → meaning.sound problem (meaning.root problem) → (first now after : Scene S N K Sum Q) (old new : List (LevelValue K)) (path : List ℕ) (fault : SearchFault) → IsWalking meaning problem keying join of policy task did first now old → TopEnds (levels (meaning.remaining problem) old) path (levels (meaning.remaining problem) new) → after.log ≡ now.log → RefusesNote now.log path fault → after.seat ≡ now.seat → after.sent ≡ now.sent → Refused first after fault
+  pub ends-stops : {did : List OutletCall → Type 0} → IsRanked (meaning.sound problem) (meaning.children problem) (meaning.rank problem) → meaning.sound problem (meaning.root problem) → (first now after : Scene N Sum Q) (old new : List (LevelValue K)) (path : List ℕ) (fault : SearchFault) → IsWalking meaning problem keying join of policy task did first now old → TopEnds (levels (meaning.remaining problem) old) path (levels (meaning.remaining problem) new) → after.log ≡ now.log → RefusesNote now.log path fault → after.seat ≡ now.seat → after.sent ≡ now.sent → Refused first after fault
   ends-stops ranked root first now after old new path fault w turn same_log refused same_seat same_sent =
       let before = short-underway ranked root first.seat now.seat w.notes w.frames (levels (meaning.remaining problem) old) [] w.way in
       let c = underway-ends meaning problem keying task first.seat now.seat w.notes w.frames old new path w.way turn in
@@ -254,12 +254,12 @@ module _ {S N K Sum Q : Type 0} (meaning : Ghosts S N K) (problem : S) (keying :
   all-front P [] ys a = (tt, a)
   all-front P (x ∷ xs) ys a = let more = all-front P xs ys a.1 in ((a.0, more.0), more.1)
 
-  part-paths : (xs ys : List (Task S N K)) → PartOfBag xs ys → PartOfBag (paths_of xs) (paths_of ys)
+  part-paths : (xs ys : List (Task N)) → PartOfBag xs ys → PartOfBag (paths_of xs) (paths_of ys)
   part-paths xs ys p = record {
     weighs = λ w.
         let h = p.weighs (λ task'. w task'.path.numbers) in
-        let a = sum_by-map w (λ (task' : Task S N K). task'.path.numbers) xs in
-        let b = sum_by-map w (λ (task' : Task S N K). task'.path.numbers) ys in
+        let a = sum_by-map w (λ (task' : Task N). task'.path.numbers) xs in
+        let b = sum_by-map w (λ (task' : Task N). task'.path.numbers) ys in
         omega (arith, h, a, b);
   }
 
@@ -289,19 +289,19 @@ module _ {S N K Sum Q : Type 0} (meaning : Ghosts S N K) (problem : S) (keying :
     stopped ranked root first now log notes ls rest (TooManyTasks number) r hosts u = absurd r
 
     -- the tasks that were sent
-    record SentSome (before : List (Task S N K)) (after : List (Task S N K)) (tasks : List (Task S N K)) (done : List (List ℕ)) : Type 0 where
-      pub more : List (Task S N K)
+    record SentSome (before : List (Task N)) (after : List (Task N)) (tasks : List (Task N)) (done : List (List ℕ)) : Type 0 where
+      pub more : List (Task N)
       pub sent_are : SameBag after (before ++ more)
       pub each : AllByRecursion IsHere more
       pub noted : PartOfBag (paths_of more) done
 
-    sent-some : (before after tasks : List (Task S N K)) (done rest : List (List ℕ)) → paths_of tasks ≡ done ++ rest → (after ≡ before) ⊎ ((rest ≡ []) × IsSentPart IsHere before tasks after) → SentSome before after tasks done
+    sent-some : (before after tasks : List (Task N)) (done rest : List (List ℕ)) → paths_of tasks ≡ done ++ rest → (after ≡ before) ⊎ ((rest ≡ []) × IsSentPart IsHere before tasks after) → SentSome before after tasks done
     sent-some before after tasks done rest are (inl same) = record { more = []; sent_are = same-is (same ∙ sym (append-nil before)); each = tt; noted = record { weighs = λ w. omega arith } }
     sent-some before after tasks done rest are (inr s) =
         let whole : paths_of tasks ≡ done = are ∙ ap (λ ps. done ++ ps) s.0 ∙ append-nil done in
         record { more = s.1.part; sent_are = s.1.sent_are; each = s.1.each; noted = subst (PartOfBag (paths_of s.1.part)) whole (part-paths s.1.part tasks s.1.of_tasks) }
 
-    sharing-stops : {did : List OutletCall → Type 0} → IsRanked (meaning.sound problem) (meaning.children problem) (meaning.rank problem) → meaning.sound problem (meaning.root problem) → (first now after : Scene S N K Sum Q) (old new : List (LevelValue K)) (event : Event) (depth : ℕ) (fault : SearchFault) → HasEvent meaning problem keying join of policy task did first now old event depth → StopsSharing meaning problem what fault old now.log now.sent new after.log after.sent → (IsAlone meaning problem keying join of policy task first → ⊥) → after.seat ≡ now.seat → Refused first after fault
+    sharing-stops : {did : List OutletCall → Type 0} → IsRanked (meaning.sound problem) (meaning.children problem) (meaning.rank problem) → meaning.sound problem (meaning.root problem) → (first now after : Scene N Sum Q) (old new : List (LevelValue K)) (event : Event) (depth : ℕ) (fault : SearchFault) → HasEvent meaning problem keying join of policy task did first now old event depth → StopsSharing meaning problem what fault old now.log now.sent new after.log after.sent → (IsAlone meaning problem keying join of policy task first → ⊥) → after.seat ≡ now.seat → Refused first after fault
     sharing-stops ranked root first now after old new event depth fault h s not_alone same_seat =
         let ls = levels (meaning.remaining problem) new in
         let base = h.notes ++ h.note ∷ [] in
@@ -329,13 +329,13 @@ module _ {S N K Sum Q : Type 0} (meaning : Ghosts S N K) (problem : S) (keying :
           goes = subst (SeatGoes t keying first.seat (taken task ∷ (notes ++ stop.ahead))) (sym same_seat) stop.short.goes;
           sent_are = same-trans sent.sent_are (same-trans (same-append h.sent_are (same-refl sent.more)) (same-is (append_assoc first.sent h.tasks sent.more)));
           noted = subst (λ ps. PartOfBag (paths_of (h.tasks ++ sent.more)) ps) (sym sent_is)
-              (subst (λ ps. PartOfBag ps (sent_paths h.notes ++ s.noting.done)) (sym (map-append (λ (task' : Task S N K). task'.path.numbers) h.tasks sent.more)) (part-append (same-part h.tasks_are) sent.noted));
+              (subst (λ ps. PartOfBag ps (sent_paths h.notes ++ s.noting.done)) (sym (map-append (λ (task' : Task N). task'.path.numbers) h.tasks sent.more)) (part-append (same-part h.tasks_are) sent.noted));
           sound = AllByRecursion-append IsHere h.tasks sent.more h.sound sent.each;
           cause = stop.cause;
           of_sequence = λ alone. absurd (not_alone alone);
         }
 
-  pub event-stops : {did : List OutletCall → Type 0} → IsRanked (meaning.sound problem) (meaning.children problem) (meaning.rank problem) → meaning.sound problem (meaning.root problem) → (wanted : Bool) (first now after : Scene S N K Sum Q) (old new : List (LevelValue K)) (event : Event) (depth : ℕ) (fault : SearchFault) → HasEvent meaning problem keying join of policy task did first now old event depth → StopsAsking meaning problem policy (input_of event depth wanted) fault now.state old now.log now.sent new after.log after.sent → after.seat ≡ now.seat → Refused first after fault
+  pub event-stops : {did : List OutletCall → Type 0} → IsRanked (meaning.sound problem) (meaning.children problem) (meaning.rank problem) → meaning.sound problem (meaning.root problem) → (wanted : Bool) (first now after : Scene N Sum Q) (old new : List (LevelValue K)) (event : Event) (depth : ℕ) (fault : SearchFault) → HasEvent meaning problem keying join of policy task did first now old event depth → StopsAsking meaning problem policy (input_of event depth wanted) fault now.state old now.log now.sent new after.log after.sent → after.seat ≡ now.seat → Refused first after fault
   event-stops ranked root wanted first now after old new event depth fault h s same_seat =
       elim s.stops [
         | inl p ↦ sharing-stops spawned Spawned (spawned-sends meaning problem keying task) (λ path. refl) ranked root first now after old new event depth fault h p.1 (λ alone. not-spawn (part_of_chunk s.chunk) (sym (alone.never_asks now.state (input_of event depth wanted)) ∙ p.0)) same_seat

@@ -80,22 +80,22 @@ module _ {S N K : Type 0} (meaning : Ghosts S N K) (problem : S) (keying : Keyin
         (all.0, subst (λ ns. UnderWay first now ns all.0 ls rest) (append_assoc notes (made p ∷ []) (map made done)) all.1)
 
   -- tasks that were split off, and that their paths are of children of open visits
-  pub record SplitsOff (first now : SeatView) (notes : List Note) (stack : List (LevelValue K)) (tasks : List (Task S N K)) : Type 0 where
+  pub record SplitsOff (first now : SeatView) (notes : List Note) (stack : List (LevelValue K)) (tasks : List (Task N)) : Type 0 where
     pub frames : List Frame
     pub way : UnderWay first now notes frames (seen stack) (paths_of tasks)
     pub hosts : AllByRecursion (IsOfLevel (reverse (seen stack))) (paths_of tasks)
 
-  pub underway-off : (first now : SeatView) (notes : List Note) (frames : List Frame) (old new : List (LevelValue K)) (tasks : List (Task S N K)) → UnderWay first now notes frames (seen old) [] → IsSplitOff meaning problem old tasks new → SplitsOff first now notes new tasks
+  pub underway-off : (first now : SeatView) (notes : List Note) (frames : List Frame) (old new : List (LevelValue K)) (tasks : List (Task N)) → UnderWay first now notes frames (seen old) [] → IsSplitOff meaning problem old tasks new → SplitsOff first now notes new tasks
   underway-off first now notes frames old new tasks u off = from off.split
     where
       from : ((tasks ≡ []) × (levels (meaning.remaining problem) new ≡ levels (meaning.remaining problem) old)) ⊎ MovesLowest (levels (meaning.remaining problem) old) [] tasks (levels (meaning.remaining problem) new) → SplitsOff first now notes new tasks
       from (inl none) = record {
         frames = frames;
         way = underway-splits meaning problem keying task first now notes frames old new tasks u (subst (λ ls. AreAligned frames (reverse ls)) (sym none.1) u.aligned) off.levels_open off.tasks_are off.to_come_is;
-        hosts = subst (λ (ts : List (Task S N K)). AllByRecursion (IsOfLevel (reverse (seen new))) (paths_of ts)) (sym none.0) tt;
+        hosts = subst (λ (ts : List (Task N)). AllByRecursion (IsOfLevel (reverse (seen new))) (paths_of ts)) (sym none.0) tt;
       }
       from (inr m) = record {
         frames = frames;
         way = underway-splits meaning problem keying task first now notes frames old new tasks u (split-aligned meaning problem keying task frames old new [] tasks m u.aligned) off.levels_open off.tasks_are off.to_come_is;
-        hosts = subst (λ (ts : List (Task S N K)). AllByRecursion (IsOfLevel (reverse (seen new))) (paths_of ts)) (sym m.moves.after_is) (split-hosts meaning problem keying task old new [] tasks m);
+        hosts = subst (λ (ts : List (Task N)). AllByRecursion (IsOfLevel (reverse (seen new))) (paths_of ts)) (sym m.moves.after_is) (split-hosts meaning problem keying task old new [] tasks m);
       }

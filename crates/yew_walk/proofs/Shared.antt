@@ -16,14 +16,14 @@ use Rattle.yew_walk.specs.Sharing.{IsSplitOff, IsShared}
 
 module _ {S N K : Type 0} (meaning : Ghosts S N K) (problem : S) where
   -- behind an empty list all tasks were appended
-  pub all-appended : (before tasks : List (Task S N K)) → before ≡ [] → AllByRecursion (λ task. IsTask meaning problem task.path.numbers task.node) (appended before tasks) → AllByRecursion (λ task. IsTask meaning problem task.path.numbers task.node) tasks
-  all-appended before tasks none are = subst (λ (b : List (Task S N K)). AllByRecursion (λ (task : Task S N K). IsTask meaning problem task.path.numbers task.node) (appended b tasks)) none are
+  pub all-appended : (before tasks : List (Task N)) → before ≡ [] → AllByRecursion (λ task. IsTask meaning problem task.path.numbers task.node) (appended before tasks) → AllByRecursion (λ task. IsTask meaning problem task.path.numbers task.node) tasks
+  all-appended before tasks none are = subst (λ (b : List (Task N)). AllByRecursion (λ (task : Task N). IsTask meaning problem task.path.numbers task.node) (appended b tasks)) none are
 
   -- what a split tells of the levels and of a list that was empty
-  pub splits-off : (chunk : Chunk) (old new : List (LevelValue K)) (before tasks : List (Task S N K)) → before ≡ [] → Splits chunk (levels (meaning.remaining problem) old) before tasks (levels (meaning.remaining problem) new) → SameBag (to_come meaning problem old) (to_come meaning problem new ++ flat_map (task_members meaning problem) (appended before tasks)) → AllOpen meaning problem new × AllByRecursion (λ task. IsTask meaning problem task.path.numbers task.node) (appended before tasks) → IsSplitOff meaning problem old tasks new
+  pub splits-off : (chunk : Chunk) (old new : List (LevelValue K)) (before tasks : List (Task N)) → before ≡ [] → Splits chunk (levels (meaning.remaining problem) old) before tasks (levels (meaning.remaining problem) new) → SameBag (to_come meaning problem old) (to_come meaning problem new ++ flat_map (task_members meaning problem) (appended before tasks)) → AllOpen meaning problem new × AllByRecursion (λ task. IsTask meaning problem task.path.numbers task.node) (appended before tasks) → IsSplitOff meaning problem old tasks new
   splits-off chunk old new before tasks none splits same are = record {
     split = either (subst (λ b. Splits chunk (levels (meaning.remaining problem) old) b tasks (levels (meaning.remaining problem) new)) none splits);
-    to_come_is = subst (λ (b : List (Task S N K)). SameBag (to_come meaning problem old) (to_come meaning problem new ++ flat_map (task_members meaning problem) (appended b tasks))) none same;
+    to_come_is = subst (λ (b : List (Task N)). SameBag (to_come meaning problem old) (to_come meaning problem new ++ flat_map (task_members meaning problem) (appended b tasks))) none same;
     levels_open = are.0;
     tasks_are = all-appended before tasks none are.1;
   }
@@ -33,5 +33,5 @@ module _ {S N K : Type 0} (meaning : Ghosts S N K) (problem : S) where
       either (inr moves) = inr moves.0
 
   -- a sharing whose one call makes more of the outlet
-  pub shared-more : {chunk : Chunk} {what : What} {did more : List OutletCall → Type 0} {old new : List (LevelValue K)} {old_log new_log : LogView} {old_sent new_sent : List (Task S N K)} → ((calls : List OutletCall) → did calls → more calls) → IsShared meaning problem chunk what did old old_log old_sent new new_log new_sent → IsShared meaning problem chunk what more old old_log old_sent new new_log new_sent
+  pub shared-more : {chunk : Chunk} {what : What} {did more : List OutletCall → Type 0} {old new : List (LevelValue K)} {old_log new_log : LogView} {old_sent new_sent : List (Task N)} → ((calls : List OutletCall) → did calls → more calls) → IsShared meaning problem chunk what did old old_log old_sent new new_log new_sent → IsShared meaning problem chunk what more old old_log old_sent new new_log new_sent
   shared-more f s = record { tasks = s.tasks; is_off = s.is_off; splits = s.splits; log_is = s.log_is; within = s.within; sent_are = s.sent_are; given_is = f (was_given (paths_of s.tasks) ∷ []) s.given_is }

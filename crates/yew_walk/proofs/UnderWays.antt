@@ -95,7 +95,7 @@ module _ {S N K : Type 0} (meaning : Ghosts S N K) (problem : S) (keying : Keyin
   }
 
   -- the highest level gives a node
-  pub underway-gives : Ranked → (first now : SeatView) (notes : List Note) (frames : List Frame) (old new : List (LevelValue K)) (given : Task S N K) → UnderWay first now notes frames (seen old) [] → TopGives (seen old) given.path.numbers given.node (seen new) → UnderWay first now notes frames (seen new) (given.path.numbers ∷ []) × IsNext task notes frames (reverse (seen new)) given.path.numbers
+  pub underway-gives : Ranked → (first now : SeatView) (notes : List Note) (frames : List Frame) (old new : List (LevelValue K)) (given : Task N) → UnderWay first now notes frames (seen old) [] → TopGives (seen old) given.path.numbers given.node (seen new) → UnderWay first now notes frames (seen new) (given.path.numbers ∷ []) × IsNext task notes frames (reverse (seen new)) given.path.numbers
   underway-gives ranked first now notes frames old new given u turn =
       let opened = gives-open meaning problem ranked old new given turn u.levels_open in
       let ahead = gives-to_come meaning problem old new given turn in

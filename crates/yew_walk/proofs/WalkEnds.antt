@@ -63,18 +63,18 @@ module _ {S N K : Type 0} (meaning : Ghosts S N K) (problem : S) (keying : Keyin
       ∙ ap (λ ls. reverse upper ++ ls) (reverse-append lower (level ∷ []))
 
   -- the paths at and below tasks
-  tasks-below : (tasks : List (Task S N K)) → AllByRecursion (λ task'. IsTask meaning problem task'.path.numbers task'.node) tasks → paths (flat_map (task_members meaning problem) tasks) ≡ flat_map (below t) (paths_of tasks)
+  tasks-below : (tasks : List (Task N)) → AllByRecursion (λ task'. IsTask meaning problem task'.path.numbers task'.node) tasks → paths (flat_map (task_members meaning problem) tasks) ≡ flat_map (below t) (paths_of tasks)
   tasks-below [] all = refl
   tasks-below (first ∷ tasks) all =
       map-append (λ (m : Member N). m.path) (task_members meaning problem first) (flat_map (task_members meaning problem) tasks)
       ∙ ap₂ (λ (xs ys : List (List ℕ)). xs ++ ys) (sym (ap (below_node t first.path.numbers) all.0.found)) (tasks-below tasks all.1)
 
-  tasks-there : (tasks : List (Task S N K)) → AllByRecursion (λ task'. IsTask meaning problem task'.path.numbers task'.node) tasks → AllByRecursion (λ path. IsSome (at_path t path)) (paths_of tasks)
+  tasks-there : (tasks : List (Task N)) → AllByRecursion (λ task'. IsTask meaning problem task'.path.numbers task'.node) tasks → AllByRecursion (λ path. IsSome (at_path t path)) (paths_of tasks)
   tasks-there [] all = tt
   tasks-there (first ∷ tasks) all = (found-there meaning problem keying task first.path.numbers first.node all.0, tasks-there tasks all.1)
 
   -- tasks that are split off stand between the levels and the entries
-  pub underway-splits : (first now : SeatView) (notes : List Note) (frames : List Frame) (old new : List (LevelValue K)) (tasks : List (Task S N K)) → UnderWay first now notes frames (seen old) [] → AreAligned frames (tops new) → AllOpen meaning problem new → AllByRecursion (λ task'. IsTask meaning problem task'.path.numbers task'.node) tasks → SameBag (to_come meaning problem old) (to_come meaning problem new ++ flat_map (task_members meaning problem) tasks) → UnderWay first now notes frames (seen new) (paths_of tasks)
+  pub underway-splits : (first now : SeatView) (notes : List Note) (frames : List Frame) (old new : List (LevelValue K)) (tasks : List (Task N)) → UnderWay first now notes frames (seen old) [] → AreAligned frames (tops new) → AllOpen meaning problem new → AllByRecursion (λ task'. IsTask meaning problem task'.path.numbers task'.node) tasks → SameBag (to_come meaning problem old) (to_come meaning problem new ++ flat_map (task_members meaning problem) tasks) → UnderWay first now notes frames (seen new) (paths_of tasks)
   underway-splits first now notes frames old new tasks u aligned levels_open are same = record {
     goes = u.goes;
     shape = u.shape;
@@ -108,14 +108,14 @@ module _ {S N K : Type 0} (meaning : Ghosts S N K) (problem : S) (keying : Keyin
   numbered-of level ls stands k [] = tt
   numbered-of level ls stands k (n ∷ nodes) = (record { level = level; stands = stands; number = k; is = refl }, numbered-of level ls stands (suc k) nodes)
 
-  pub split-aligned : (frames : List Frame) (old new : List (LevelValue K)) (before after : List (Task S N K)) → MovesLowest (levels (meaning.remaining problem) old) before after (levels (meaning.remaining problem) new) → AreAligned frames (tops old) → AreAligned frames (tops new)
+  pub split-aligned : (frames : List Frame) (old new : List (LevelValue K)) (before after : List (Task N)) → MovesLowest (levels (meaning.remaining problem) old) before after (levels (meaning.remaining problem) new) → AreAligned frames (tops old) → AreAligned frames (tops new)
   split-aligned frames old new before after m a =
       let old_tops = ap reverse m.old_is ∙ reverse-around m.lower m.level m.upper in
       let new_tops = ap reverse m.new_is ∙ reverse-around m.lower m.rest m.upper in
       subst (AreAligned frames) (sym new_tops)
       (aligned-more frames (reverse m.upper) m.level m.rest (reverse m.lower) m.moves.moves.parent_is (omega (arith, m.moves.moves.given_is)) (subst (AreAligned frames) old_tops a))
 
-  pub split-hosts : (old new : List (LevelValue K)) (before after : List (Task S N K)) (m : MovesLowest (levels (meaning.remaining problem) old) before after (levels (meaning.remaining problem) new)) → AllByRecursion (IsOfLevel (tops new)) (paths_of m.moves.moved)
+  pub split-hosts : (old new : List (LevelValue K)) (before after : List (Task N)) (m : MovesLowest (levels (meaning.remaining problem) old) before after (levels (meaning.remaining problem) new)) → AllByRecursion (IsOfLevel (tops new)) (paths_of m.moves.moved)
   split-hosts old new before after m =
       let new_tops = ap reverse m.new_is ∙ reverse-around m.lower m.rest m.upper in
       let stands : Contains (tops new) m.rest = subst (λ ls. Contains ls m.rest) (sym new_tops) (Contains-append_right (reverse m.upper) (m.rest ∷ reverse m.lower) m.rest (Contains-head m.rest (reverse m.lower))) in

@@ -106,7 +106,7 @@ module _ {S N K : Type 0} (meaning : Ghosts S N K) (problem : S) where
   abbrev tree : SearchTree N
   tree = search_tree meaning problem
 
-  AllByRecursion-first : IsRanked (meaning.sound problem) (meaning.children problem) (meaning.rank problem) → (old new : List (LevelValue K)) (given : Task S N K) → AllOpen meaning problem old → TopGives (levels (meaning.remaining problem) old) given.path.numbers given.node (levels (meaning.remaining problem) new) → meaning.sound problem given.node
+  AllByRecursion-first : IsRanked (meaning.sound problem) (meaning.children problem) (meaning.rank problem) → (old new : List (LevelValue K)) (given : Task N) → AllOpen meaning problem old → TopGives (levels (meaning.remaining problem) old) given.path.numbers given.node (levels (meaning.remaining problem) new) → meaning.sound problem given.node
   AllByRecursion-first ranked old new given opened turn = (gives-open meaning problem ranked old new given turn opened).1.is_sound
 
   sequence-visits : (keying : Keying) → keying ≡ Plain → IsRanked (meaning.sound problem) (meaning.children problem) (meaning.rank problem) → (first now after : SeatView) (notes : List Note) (old mid : List (LevelView N)) (path : List ℕ) (node : N) (worth held : ℕ) → IsInSequence tree notes old → TopGives old path node mid → meaning.sound problem node → SeatGoes tree keying first notes now → first.offered ≡ [] → first.share ≡ first.best.seats → IsVisit meaning problem keying path node worth held now after → IsInSequence tree (notes ++ visited path worth held ∷ []) (mid ++ record { parent = path; given = 0; remaining = meaning.children problem node } ∷ [])
@@ -127,27 +127,27 @@ module _ {S N K Sum Q : Type 0} (meaning : Ghosts S N K) (problem : S) (keying :
   abbrev t : SearchTree N
   t = search_tree meaning problem
 
-  abbrev Walking : (List OutletCall → Type 0) → Scene S N K Sum Q → Scene S N K Sum Q → List (LevelValue K) → Type 0
+  abbrev Walking : (List OutletCall → Type 0) → Scene N Sum Q → Scene N Sum Q → List (LevelValue K) → Type 0
   Walking = IsWalking meaning problem keying join of policy task
 
-  abbrev Happened : (List OutletCall → Type 0) → Scene S N K Sum Q → Scene S N K Sum Q → List (LevelValue K) → Event → ℕ → Type 0
+  abbrev Happened : (List OutletCall → Type 0) → Scene N Sum Q → Scene N Sum Q → List (LevelValue K) → Event → ℕ → Type 0
   Happened = HasEvent meaning problem keying join of policy task
 
   abbrev Falls : Type 0
   Falls = IsRanked (meaning.sound problem) (meaning.children problem) (meaning.rank problem)
 
-  abbrev Alone : Scene S N K Sum Q → Type 0
+  abbrev Alone : Scene N Sum Q → Type 0
   Alone = IsAlone meaning problem keying join of policy task
 
   abbrev child_level : List ℕ → N → LevelView N
   child_level path node = record { parent = path; given = 0; remaining = meaning.children problem node }
 
   -- a node is next: the entries so far, and what either judgement leaves of the levels
-  pub record AwaitsNode (did : List OutletCall → Type 0) (first now : Scene S N K Sum Q) (stack : List (LevelValue K)) (path : List ℕ) (node : N) : Type 0 where
+  pub record AwaitsNode (did : List OutletCall → Type 0) (first now : Scene N Sum Q) (stack : List (LevelValue K)) (path : List ℕ) (node : N) : Type 0 where
     pub notes : List Note
     pub frames : List Frame
     pub answers : List Bool
-    pub tasks : List (Task S N K)
+    pub tasks : List (Task N)
     pub members : List (Member N)
     pub way : IsUnderWay meaning problem keying task first.seat now.seat notes frames (levels (meaning.remaining problem) stack) (path ∷ [])
     pub next : IsNext task notes frames (reverse (levels (meaning.remaining problem) stack)) path
@@ -167,7 +167,7 @@ module _ {S N K Sum Q : Type 0} (meaning : Ghosts S N K) (problem : S) (keying :
     pub answers_are : now.answers ≡ option_map (λ given. given ++ answers) first.answers
     pub calls_are : did (outlet_calls policy (policy.start first.state) notes answers)
 
-  pub awaits-gives : {did : List OutletCall → Type 0} → Falls → (first now : Scene S N K Sum Q) (old new : List (LevelValue K)) (given : Task S N K) → Walking did first now old → TopGives (levels (meaning.remaining problem) old) given.path.numbers given.node (levels (meaning.remaining problem) new) → AwaitsNode did first now new given.path.numbers given.node
+  pub awaits-gives : {did : List OutletCall → Type 0} → Falls → (first now : Scene N Sum Q) (old new : List (LevelValue K)) (given : Task N) → Walking did first now old → TopGives (levels (meaning.remaining problem) old) given.path.numbers given.node (levels (meaning.remaining problem) new) → AwaitsNode did first now new given.path.numbers given.node
   awaits-gives ranked first now old new given w turn =
       let both = underway-gives meaning problem keying task ranked first.seat now.seat w.notes w.frames old new given w.way turn in
       record {
@@ -196,7 +196,7 @@ module _ {S N K Sum Q : Type 0} (meaning : Ghosts S N K) (problem : S) (keying :
       }
 
   -- the node was visited
-  enters-visit : {did : List OutletCall → Type 0} → Falls → (first now after : Scene S N K Sum Q) (stack new : List (LevelValue K)) (path : List ℕ) (node : N) → IsTask meaning problem path node → AwaitsNode did first now stack path node → EntersVisit meaning problem keying path node join of now.seat now.hand now.log stack after.seat after.hand after.log new → IsWithin after.log.told → after.state ≡ now.state → after.sent ≡ now.sent → after.answers ≡ now.answers → Happened did first after new Visited (length path)
+  enters-visit : {did : List OutletCall → Type 0} → Falls → (first now after : Scene N Sum Q) (stack new : List (LevelValue K)) (path : List ℕ) (node : N) → IsTask meaning problem path node → AwaitsNode did first now stack path node → EntersVisit meaning problem keying path node join of now.seat now.hand now.log stack after.seat after.hand after.log new → IsWithin after.log.told → after.state ≡ now.state → after.sent ≡ now.sent → after.answers ≡ now.answers → Happened did first after new Visited (length path)
   enters-visit ranked first now after stack new path node is a e within same_state same_sent same_answers =
       let note : Note = visited path e.worth e.held in
       let level : LevelValue K = record { parent = path; given = 0; kids = e.opens.kids } in
@@ -233,7 +233,7 @@ module _ {S N K Sum Q : Type 0} (meaning : Ghosts S N K) (problem : S) (keying :
       }
 
   -- the node was cut
-  enters-cut : {did : List OutletCall → Type 0} → (first now after : Scene S N K Sum Q) (stack new : List (LevelValue K)) (path : List ℕ) (node : N) → IsTask meaning problem path node → AwaitsNode did first now stack path node → EntersCut meaning problem keying path node join of now.seat now.hand now.log stack after.seat after.hand after.log new → IsWithin after.log.told → after.state ≡ now.state → after.sent ≡ now.sent → after.answers ≡ now.answers → Happened did first after new CutOff (length path)
+  enters-cut : {did : List OutletCall → Type 0} → (first now after : Scene N Sum Q) (stack new : List (LevelValue K)) (path : List ℕ) (node : N) → IsTask meaning problem path node → AwaitsNode did first now stack path node → EntersCut meaning problem keying path node join of now.seat now.hand now.log stack after.seat after.hand after.log new → IsWithin after.log.told → after.state ≡ now.state → after.sent ≡ now.sent → after.answers ≡ now.answers → Happened did first after new CutOff (length path)
   enters-cut first now after stack new path node is a e within same_state same_sent same_answers =
       let note : Note = cut path e.bound e.held in
       let c = underway-cut meaning problem keying task first.seat now.seat after.seat a.notes a.frames (levels (meaning.remaining problem) stack) path node e.bound e.held is a.way a.next e.is_cut in
@@ -263,13 +263,13 @@ module _ {S N K Sum Q : Type 0} (meaning : Ghosts S N K) (problem : S) (keying :
         calls_are = a.calls_are;
       }
 
-  pub awaits-enters : {did : List OutletCall → Type 0} → Falls → (event : Event) (first now after : Scene S N K Sum Q) (stack new : List (LevelValue K)) (path : List ℕ) (node : N) → IsTask meaning problem path node → AwaitsNode did first now stack path node → Enters meaning problem keying path node join of event now.seat now.hand now.log stack after.seat after.hand after.log new → IsWithin after.log.told → after.state ≡ now.state → after.sent ≡ now.sent → after.answers ≡ now.answers → Happened did first after new event (length path)
+  pub awaits-enters : {did : List OutletCall → Type 0} → Falls → (event : Event) (first now after : Scene N Sum Q) (stack new : List (LevelValue K)) (path : List ℕ) (node : N) → IsTask meaning problem path node → AwaitsNode did first now stack path node → Enters meaning problem keying path node join of event now.seat now.hand now.log stack after.seat after.hand after.log new → IsWithin after.log.told → after.state ≡ now.state → after.sent ≡ now.sent → after.answers ≡ now.answers → Happened did first after new event (length path)
   awaits-enters ranked Visited first now after stack new path node is a e within same_state same_sent same_answers = enters-visit ranked first now after stack new path node is a e within same_state same_sent same_answers
   awaits-enters ranked CutOff first now after stack new path node is a e within same_state same_sent same_answers = enters-cut first now after stack new path node is a e within same_state same_sent same_answers
   awaits-enters ranked Ended first now after stack new path node is a e within same_state same_sent same_answers = absurd e
 
   -- the highest level ended
-  pub walking-ends : {did : List OutletCall → Type 0} → (first now after : Scene S N K Sum Q) (old new : List (LevelValue K)) (path : List ℕ) → Walking did first now old → TopEnds (levels (meaning.remaining problem) old) path (levels (meaning.remaining problem) new) → after.log ≡ log_after now.log (ended path ∷ []) → IsWithin after.log.told → after.seat ≡ now.seat → after.hand ≡ now.hand → after.state ≡ now.state → after.sent ≡ now.sent → after.answers ≡ now.answers → Happened did first after new Ended (length path)
+  pub walking-ends : {did : List OutletCall → Type 0} → (first now after : Scene N Sum Q) (old new : List (LevelValue K)) (path : List ℕ) → Walking did first now old → TopEnds (levels (meaning.remaining problem) old) path (levels (meaning.remaining problem) new) → after.log ≡ log_after now.log (ended path ∷ []) → IsWithin after.log.told → after.seat ≡ now.seat → after.hand ≡ now.hand → after.state ≡ now.state → after.sent ≡ now.sent → after.answers ≡ now.answers → Happened did first after new Ended (length path)
   walking-ends first now after old new path w turn logged within same_seat same_hand same_state same_sent same_answers =
       let note : Note = ended path in
       let c = underway-ends meaning problem keying task first.seat now.seat w.notes w.frames old new path w.way turn in
@@ -300,14 +300,14 @@ module _ {S N K Sum Q : Type 0} (meaning : Ghosts S N K) (problem : S) (keying :
       }
 
   -- the calls along the entries, with those at one more event
-  event-calls : {did : List OutletCall → Type 0} {event : Event} {depth : ℕ} {stack : List (LevelValue K)} → (first now : Scene S N K Sum Q) (h : Happened did first now stack event depth) (wanted : Bool) (group : List Note) (calls : List OutletCall) → calls_at policy now.state (input_of event depth wanted) (sent_paths (group_of group)) ≡ calls → outlet_calls policy (policy.start first.state) (h.notes ++ h.note ∷ group) (h.answers ++ wanted ∷ []) ≡ outlet_calls policy (policy.start first.state) h.notes h.answers ++ calls
+  event-calls : {did : List OutletCall → Type 0} {event : Event} {depth : ℕ} {stack : List (LevelValue K)} → (first now : Scene N Sum Q) (h : Happened did first now stack event depth) (wanted : Bool) (group : List Note) (calls : List OutletCall) → calls_at policy now.state (input_of event depth wanted) (sent_paths (group_of group)) ≡ calls → outlet_calls policy (policy.start first.state) (h.notes ++ h.note ∷ group) (h.answers ++ wanted ∷ []) ≡ outlet_calls policy (policy.start first.state) h.notes h.answers ++ calls
   event-calls {did} {event} {depth} {stack} first now h wanted group calls are =
       outlet_calls-event policy (policy.start first.state) h.notes h.answers h.note wanted (input_of event depth wanted) group (h.is_event wanted) h.has_policy.one_each
       ∙ ap (λ q. outlet_calls policy (policy.start first.state) h.notes h.answers ++ calls_at policy q (input_of event depth wanted) (sent_paths (group_of group))) h.state_is
       ∙ ap (λ cs. outlet_calls policy (policy.start first.state) h.notes h.answers ++ cs) are
 
   -- the policy asked for nothing
-  asked-on : {did goes : List OutletCall → Type 0} → (wanted : Bool) (event : Event) (depth : ℕ) (first now after : Scene S N K Sum Q) (stack : List (LevelValue K)) → Happened did first now stack event depth → ((xs : List OutletCall) → did xs → goes (xs ++ was_asked wanted ∷ [])) → policy.act now.state (input_of event depth wanted) ≡ on → after.state ≡ policy.after now.state (input_of event depth wanted) → after.seat ≡ now.seat → after.hand ≡ now.hand → after.log ≡ now.log → after.sent ≡ now.sent → after.answers ≡ option_map (λ given. given ++ wanted ∷ []) now.answers → Walking goes first after stack
+  asked-on : {did goes : List OutletCall → Type 0} → (wanted : Bool) (event : Event) (depth : ℕ) (first now after : Scene N Sum Q) (stack : List (LevelValue K)) → Happened did first now stack event depth → ((xs : List OutletCall) → did xs → goes (xs ++ was_asked wanted ∷ [])) → policy.act now.state (input_of event depth wanted) ≡ on → after.state ≡ policy.after now.state (input_of event depth wanted) → after.seat ≡ now.seat → after.hand ≡ now.hand → after.log ≡ now.log → after.sent ≡ now.sent → after.answers ≡ option_map (λ given. given ++ wanted ∷ []) now.answers → Walking goes first after stack
   asked-on {did} {goes} wanted event depth first now after stack h follows act state same_seat same_hand same_log same_sent told =
       let notes = h.notes ++ h.note ∷ [] in
       let gone_on = goes_on-on t policy first.state h.notes h.answers h.note wanted (input_of event depth wanted) now.state (levels (meaning.remaining problem) stack) (h.is_event wanted) h.has_policy h.state_is act h.dealt in
@@ -335,7 +335,7 @@ module _ {S N K Sum Q : Type 0} (meaning : Ghosts S N K) (problem : S) (keying :
 
   -- a chunk was shared out
   module _ (made : List ℕ → Note) (what : What) (sends : Sends meaning problem keying task made what) where
-    asked-shared : {did goes : List OutletCall → Type 0} → (wanted : Bool) (event : Event) (depth : ℕ) (chunk : Chunk) (first now after : Scene S N K Sum Q) (old new : List (LevelValue K)) (h : Happened did first now old event depth) (shares : List OutletCall → Type 0) (s : IsShared meaning problem chunk what shares old now.log now.sent new after.log after.sent) → ((paths : List (List ℕ)) → list_for (policy.act now.state (input_of event depth wanted)) paths ≡ was_given paths ∷ []) → ((xs : List OutletCall) (paths : List (List ℕ)) → did xs → shares (was_given paths ∷ []) → goes (xs ++ was_asked wanted ∷ was_given paths ∷ [])) → HasGoneOn t policy first.state (h.notes ++ h.note ∷ map made (paths_of s.tasks)) (h.answers ++ wanted ∷ []) (levels (meaning.remaining problem) new) after.state → (Alone first → ⊥) → after.seat ≡ now.seat → after.hand ≡ now.hand → after.answers ≡ option_map (λ given. given ++ wanted ∷ []) now.answers → Walking goes first after new
+    asked-shared : {did goes : List OutletCall → Type 0} → (wanted : Bool) (event : Event) (depth : ℕ) (chunk : Chunk) (first now after : Scene N Sum Q) (old new : List (LevelValue K)) (h : Happened did first now old event depth) (shares : List OutletCall → Type 0) (s : IsShared meaning problem chunk what shares old now.log now.sent new after.log after.sent) → ((paths : List (List ℕ)) → list_for (policy.act now.state (input_of event depth wanted)) paths ≡ was_given paths ∷ []) → ((xs : List OutletCall) (paths : List (List ℕ)) → did xs → shares (was_given paths ∷ []) → goes (xs ++ was_asked wanted ∷ was_given paths ∷ [])) → HasGoneOn t policy first.state (h.notes ++ h.note ∷ map made (paths_of s.tasks)) (h.answers ++ wanted ∷ []) (levels (meaning.remaining problem) new) after.state → (Alone first → ⊥) → after.seat ≡ now.seat → after.hand ≡ now.hand → after.answers ≡ option_map (λ given. given ++ wanted ∷ []) now.answers → Walking goes first after new
     asked-shared {did} {goes} wanted event depth chunk first now after old new h shares s asks follows gone_on not_alone same_seat same_hand told =
         let group = map made (paths_of s.tasks) in
         let joined : (h.notes ++ h.note ∷ []) ++ group ≡ h.notes ++ h.note ∷ group = append_assoc h.notes (h.note ∷ []) group in
@@ -366,10 +366,10 @@ module _ {S N K Sum Q : Type 0} (meaning : Ghosts S N K) (problem : S) (keying :
               ∙ h.best_is
               ∙ ap (best_after keying (incumbent_of first.hand)) (sym (visits-quiet (h.notes ++ h.note ∷ []) group quiet) ∙ ap visits joined);
           sent_are = same-trans s.sent_are (same-trans (same-append h.sent_are (same-refl s.tasks)) (same-is (append_assoc first.sent h.tasks s.tasks)));
-          tasks_are = same-trans (same-is (map-append (λ (task' : Task S N K). task'.path.numbers) h.tasks s.tasks))
+          tasks_are = same-trans (same-is (map-append (λ (task' : Task N). task'.path.numbers) h.tasks s.tasks))
               (same-trans (same-append h.tasks_are (same-is (sym sent_are)))
               (same-is (ap (λ ps. ps ++ sent_paths group) (sym h.unsent) ∙ sym (flat_map-append sent_in (h.notes ++ h.note ∷ []) group) ∙ ap sent_paths joined)));
-          sound = AllByRecursion-append (λ (task' : Task S N K). IsTask meaning problem task'.path.numbers task'.node) h.tasks s.tasks h.sound s.is_off.tasks_are;
+          sound = AllByRecursion-append (λ (task' : Task N). IsTask meaning problem task'.path.numbers task'.node) h.tasks s.tasks h.sound s.is_off.tasks_are;
           answers_are = given-push first.answers now.answers after.answers h.answers wanted h.answers_are told;
           calls_are = subst goes (sym (event-calls first now h wanted group (was_asked wanted ∷ was_given (paths_of s.tasks) ∷ [])
               (ap (λ ps. was_asked wanted ∷ list_for (policy.act now.state (input_of event depth wanted)) ps) (ap sent_paths (sends.is_group (paths_of s.tasks)) ∙ sent_are) ∙ ap (λ cs. was_asked wanted ∷ cs) (asks (paths_of s.tasks)))))
@@ -377,7 +377,7 @@ module _ {S N K Sum Q : Type 0} (meaning : Ghosts S N K) (problem : S) (keying :
         }
 
   -- what the policy asked for was done
-  pub event-asked : {did more goes : List OutletCall → Type 0} → (wanted : Bool) (event : Event) (depth : ℕ) (first now after : Scene S N K Sum Q) (old new : List (LevelValue K)) → Happened did first now old event depth → IsAsked meaning problem policy (input_of event depth wanted) more now.state old now.log now.sent after.state new after.log after.sent → ((xs ys : List OutletCall) → did xs → more ys → goes (xs ++ ys)) → after.seat ≡ now.seat → after.hand ≡ now.hand → after.answers ≡ option_map (λ given. given ++ wanted ∷ []) now.answers → Walking goes first after new
+  pub event-asked : {did more goes : List OutletCall → Type 0} → (wanted : Bool) (event : Event) (depth : ℕ) (first now after : Scene N Sum Q) (old new : List (LevelValue K)) → Happened did first now old event depth → IsAsked meaning problem policy (input_of event depth wanted) more now.state old now.log now.sent after.state new after.log after.sent → ((xs ys : List OutletCall) → did xs → more ys → goes (xs ++ ys)) → after.seat ≡ now.seat → after.hand ≡ now.hand → after.answers ≡ option_map (λ given. given ++ wanted ∷ []) now.answers → Walking goes first after new
   event-asked {did} {more} {goes} wanted event depth first now after old new h a follows same_seat same_hand told = by a.act_done
     where
       by : ((policy.act now.state (input_of event depth wanted) ≡ on) × (new ≡ old) × (after.log ≡ now.log) × (after.sent ≡ now.sent) × more (was_asked wanted ∷ []))

@@ -38,15 +38,15 @@ use Rattle.yew_walk.specs.UnderWay.{IsUnderWay}
 
 -- what a walk changes: the seat at the incumbent word, the hand, the policy's state, the tasks that the outlet sent and
 -- the answers that it gave, and the log
-pub record Scene (S N K Sum Q : Type 0) : Type 0 where
+pub record Scene (N Sum Q : Type 0) : Type 0 where
   pub seat : SeatView
   pub hand : Hand Sum
   pub state : Q
-  pub sent : List (Task S N K)
+  pub sent : List (Task N)
   pub answers : Option (List Bool)
   pub log : LogView
 
-abbrev pub scene : {S N K Sum Q : Type 0} → SeatView → Hand Sum → Q → List (Task S N K) → Option (List Bool) → LogView → Scene S N K Sum Q
+abbrev pub scene : {N Sum Q : Type 0} → SeatView → Hand Sum → Q → List (Task N) → Option (List Bool) → LogView → Scene N Sum Q
 scene seat hand state sent answers log = record { seat = seat; hand = hand; state = state; sent = sent; answers = answers; log = log }
 
 -- a sum with these members, one after another
@@ -63,7 +63,7 @@ IsCause (TooManyTasks number) log ahead = ⊥
 
 module _ {S N K Sum Q : Type 0} (meaning : Ghosts S N K) (problem : S) (keying : Keying) (join : Sum → Sum → Sum) (of : N → ℕ → Sum) (policy : PolicyMeaning Q) (task : List ℕ) where
   -- the walk is that of the root's task by one worker, which shares nothing out
-  pub record IsAlone (first : Scene S N K Sum Q) : Type 0 where
+  pub record IsAlone (first : Scene N Sum Q) : Type 0 where
     pub plain_keys : keying ≡ Plain
     pub never_asks : (state : Q) (input : PolicyInput) → policy.act state input ≡ on
     pub of_root : task ≡ []
@@ -71,11 +71,11 @@ module _ {S N K Sum Q : Type 0} (meaning : Ghosts S N K) (problem : S) (keying :
     pub whole_share : first.seat.share ≡ first.seat.best.seats
 
   -- the walk is under way, and waits for its next turn; the calls that were made of the outlet are those along its entries
-  pub record IsWalking (made : List OutletCall → Type 0) (first now : Scene S N K Sum Q) (stack : List (LevelValue K)) : Type 0 where
+  pub record IsWalking (made : List OutletCall → Type 0) (first now : Scene N Sum Q) (stack : List (LevelValue K)) : Type 0 where
     pub notes : List Note
     pub frames : List Frame
     pub answers : List Bool
-    pub tasks : List (Task S N K)
+    pub tasks : List (Task N)
     pub members : List (Member N)
     pub way : IsUnderWay meaning problem keying task first.seat now.seat notes frames (levels (meaning.remaining problem) stack) []
     pub begun : length notes ≡ 0 → ⊥
@@ -93,12 +93,12 @@ module _ {S N K Sum Q : Type 0} (meaning : Ghosts S N K) (problem : S) (keying :
     pub calls_are : made (outlet_calls policy (policy.start first.state) notes answers)
 
   -- an event was recorded at a depth, of which the policy was not told yet
-  pub record HasEvent (made : List OutletCall → Type 0) (first now : Scene S N K Sum Q) (stack : List (LevelValue K)) (event : Event) (depth : ℕ) : Type 0 where
+  pub record HasEvent (made : List OutletCall → Type 0) (first now : Scene N Sum Q) (stack : List (LevelValue K)) (event : Event) (depth : ℕ) : Type 0 where
     pub notes : List Note
     pub note : Note
     pub frames : List Frame
     pub answers : List Bool
-    pub tasks : List (Task S N K)
+    pub tasks : List (Task N)
     pub members : List (Member N)
     pub is_event : (wanted : Bool) → input_of_note note wanted ≡ input_of event depth wanted ∷ []
     pub unsent : sent_paths (notes ++ note ∷ []) ≡ sent_paths notes
@@ -119,10 +119,10 @@ module _ {S N K Sum Q : Type 0} (meaning : Ghosts S N K) (problem : S) (keying :
     pub calls_are : made (outlet_calls policy (policy.start first.state) notes answers)
 
   -- the walk was refused: its entries, with the one that was not recorded, if there is one, are one segment that was broken off
-  pub record IsRefused (first now : Scene S N K Sum Q) (fault : SearchFault) : Type 0 where
+  pub record IsRefused (first now : Scene N Sum Q) (fault : SearchFault) : Type 0 where
     pub notes : List Note
     pub ahead : List Note
-    pub tasks : List (Task S N K)
+    pub tasks : List (Task N)
     pub one_ahead : length ahead ≤ 1
     pub log_is : now.log ≡ log_after first.log notes
     pub keeps : IsBrokenWalk (search_tree meaning problem) 0 (kind_of keying) task notes
@@ -137,10 +137,10 @@ module _ {S N K Sum Q : Type 0} (meaning : Ghosts S N K) (problem : S) (keying :
 
   -- the walk came to its end: its entries are one segment, which has the policy's groups, and the calls that were made of
   -- the outlet are those along its entries
-  pub record IsWalked (none : Sum) (made : List OutletCall → Type 0) (first now : Scene S N K Sum Q) : Type 0 where
+  pub record IsWalked (none : Sum) (made : List OutletCall → Type 0) (first now : Scene N Sum Q) : Type 0 where
     pub notes : List Note
     pub answers : List Bool
-    pub tasks : List (Task S N K)
+    pub tasks : List (Task N)
     pub members : List (Member N)
     pub walk : IsWalk (search_tree meaning problem) 0 (kind_of keying) (PolicyGroup (search_tree meaning problem) policy first.state answers) task notes
     pub one_each : length answers ≡ length (event_paths notes)

@@ -35,15 +35,15 @@ pub record StopsNoting (old : LogView) (what : What) (paths : List (List ℕ)) (
 
 module _ {S N K : Type 0} (meaning : Ghosts S N K) (problem : S) where
   -- these tasks were split off, and the levels lack exactly these
-  pub record IsSplitOff (old : List (LevelValue K)) (tasks : List (Task S N K)) (new : List (LevelValue K)) : Type 0 where
+  pub record IsSplitOff (old : List (LevelValue K)) (tasks : List (Task N)) (new : List (LevelValue K)) : Type 0 where
     pub split : ((tasks ≡ []) × (levels (meaning.remaining problem) new ≡ levels (meaning.remaining problem) old)) ⊎ MovesLowest (levels (meaning.remaining problem) old) [] tasks (levels (meaning.remaining problem) new)
     pub to_come_is : SameBag (to_come meaning problem old) (to_come meaning problem new ++ flat_map (task_members meaning problem) tasks)
     pub levels_open : AllOpen meaning problem new
     pub tasks_are : AllByRecursion (λ task. IsTask meaning problem task.path.numbers task.node) tasks
 
   -- a chunk of the lowest level was split off, recorded and sent, which is the one call that was made of the outlet
-  pub record IsShared (chunk : Chunk) (what : What) (made : List OutletCall → Type 0) (old_stack : List (LevelValue K)) (old_log : LogView) (old_sent : List (Task S N K)) (new_stack : List (LevelValue K)) (new_log : LogView) (new_sent : List (Task S N K)) : Type 0 where
-    pub tasks : List (Task S N K)
+  pub record IsShared (chunk : Chunk) (what : What) (made : List OutletCall → Type 0) (old_stack : List (LevelValue K)) (old_log : LogView) (old_sent : List (Task N)) (new_stack : List (LevelValue K)) (new_log : LogView) (new_sent : List (Task N)) : Type 0 where
+    pub tasks : List (Task N)
     pub is_off : IsSplitOff old_stack tasks new_stack
     pub splits : Splits chunk (levels (meaning.remaining problem) old_stack) [] tasks (levels (meaning.remaining problem) new_stack)
     pub log_is : new_log ≡ all_noted old_log what (paths_of tasks)
@@ -52,15 +52,15 @@ module _ {S N K : Type 0} (meaning : Ghosts S N K) (problem : S) where
     pub given_is : made (was_given (paths_of tasks) ∷ [])
 
   -- the sharing was refused: some tasks were split off, the first of them were recorded, and where all were, a part was sent
-  pub record StopsSharing (what : What) (fault : SearchFault) (old_stack : List (LevelValue K)) (old_log : LogView) (old_sent : List (Task S N K)) (new_stack : List (LevelValue K)) (new_log : LogView) (new_sent : List (Task S N K)) : Type 0 where
-    pub tasks : List (Task S N K)
+  pub record StopsSharing (what : What) (fault : SearchFault) (old_stack : List (LevelValue K)) (old_log : LogView) (old_sent : List (Task N)) (new_stack : List (LevelValue K)) (new_log : LogView) (new_sent : List (Task N)) : Type 0 where
+    pub tasks : List (Task N)
     pub is_off : IsSplitOff old_stack tasks new_stack
     pub noting : StopsNoting old_log what (paths_of tasks) fault new_log
-    pub sent_are : (new_sent ≡ old_sent) ⊎ ((noting.rest ≡ []) × IsSentPart (λ (task : Task S N K). IsTask meaning problem task.path.numbers task.node) old_sent tasks new_sent)
+    pub sent_are : (new_sent ≡ old_sent) ⊎ ((noting.rest ≡ []) × IsSentPart (λ (task : Task N). IsTask meaning problem task.path.numbers task.node) old_sent tasks new_sent)
 
   module _ {Q : Type 0} (policy : PolicyMeaning Q) (input : PolicyInput) where
     -- the outlet was asked, and what the policy asked for was done
-    pub record IsAsked (made : List OutletCall → Type 0) (old_state : Q) (old_stack : List (LevelValue K)) (old_log : LogView) (old_sent : List (Task S N K)) (new_state : Q) (new_stack : List (LevelValue K)) (new_log : LogView) (new_sent : List (Task S N K)) : Type 0 where
+    pub record IsAsked (made : List OutletCall → Type 0) (old_state : Q) (old_stack : List (LevelValue K)) (old_log : LogView) (old_sent : List (Task N)) (new_state : Q) (new_stack : List (LevelValue K)) (new_log : LogView) (new_sent : List (Task N)) : Type 0 where
       pub state_is : new_state ≡ policy.after old_state input
       pub act_done :
           ((policy.act old_state input ≡ on) × (new_stack ≡ old_stack) × (new_log ≡ old_log) × (new_sent ≡ old_sent) × made (was_asked input.wanted ∷ []))
@@ -68,7 +68,7 @@ module _ {S N K : Type 0} (meaning : Ghosts S N K) (problem : S) where
           ⊎ ((chunk : Chunk) × (policy.act old_state input ≡ hand (part_of_chunk chunk)) × IsShared chunk Handed (λ calls. made (was_asked input.wanted ∷ calls)) old_stack old_log old_sent new_stack new_log new_sent))
 
     -- what a policy asked for was refused
-    pub record StopsAsking (fault : SearchFault) (old_state : Q) (old_stack : List (LevelValue K)) (old_log : LogView) (old_sent : List (Task S N K)) (new_stack : List (LevelValue K)) (new_log : LogView) (new_sent : List (Task S N K)) : Type 0 where
+    pub record StopsAsking (fault : SearchFault) (old_state : Q) (old_stack : List (LevelValue K)) (old_log : LogView) (old_sent : List (Task N)) (new_stack : List (LevelValue K)) (new_log : LogView) (new_sent : List (Task N)) : Type 0 where
       pub chunk : Chunk
       pub stops :
           ((policy.act old_state input ≡ spawn (part_of_chunk chunk)) × StopsSharing Spawned fault old_stack old_log old_sent new_stack new_log new_sent)

@@ -23,7 +23,7 @@ pub trait Outlet<P: Problem> {
     ghost problem: { Self → P };
 
     /// The tasks that were sent.
-    ghost sent: { Self → List (TaskValue P P.Node P.Kids) };
+    ghost sent: { Self → List (TaskValue P.Node) };
 
     /// The answers of `wanted`, where the outlet tells them.
     ghost answers: { Self → Option (List Bool) };
@@ -65,7 +65,7 @@ pub trait Outlet<P: Problem> {
         ensures goes { goes self.old (was_asked result ∷ []) self.new };
 
     /// Sends tasks, of which there may be none. After `Memory` a part of them was sent.
-    fn send(&mut self, tasks: Vec<Task<P>>) -> Result<(), Memory>
+    fn send(&mut self, tasks: Vec<Task<P::Node>>) -> Result<(), Memory>
         requires { AllByRecursion (λ task. IsTask P.Problem (problem self.old) task.path.numbers task.node) tasks.items }
         ensures ok { OnOk result (SameBag (sent self.new) (sent self.old ++ tasks.items)) }
         ensures err { OnErr result (IsSentPart (λ task. IsTask P.Problem (problem self.old) task.path.numbers task.node) (sent self.old) tasks.items (sent self.new)) }
@@ -82,7 +82,7 @@ pub struct Outbox<'a, P: Problem> {
     /// The problem of the tasks.
     pub problem: &'a P,
     /// The tasks that were sent, in order.
-    pub tasks: Vec<Task<P>>,
+    pub tasks: Vec<Task<P::Node>>,
 }
 
 impl<'a, P: Problem> Outbox<'a, P> {
@@ -136,7 +136,7 @@ impl<'a, P: Problem> Outlet<P> for Outbox<'a, P> {
     }
 
     #[tactic(auto, using(crate::proofs::Parts::sent_none))]
-    fn send(&mut self, tasks: Vec<Task<P>>) -> Result<(), Memory>
+    fn send(&mut self, tasks: Vec<Task<P::Node>>) -> Result<(), Memory>
         requires { AllByRecursion (λ task. IsTask P.Problem self.old.problem.now task.path.numbers task.node) tasks.items }
         ensures ok { OnOk result (SameBag self.new.tasks.items (self.old.tasks.items ++ tasks.items)) }
         ensures err { OnErr result (IsSentPart (λ task. IsTask P.Problem self.old.problem.now task.path.numbers task.node) self.old.tasks.items tasks.items self.new.tasks.items) }

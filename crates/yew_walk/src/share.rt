@@ -42,11 +42,7 @@ pub(crate) fn note<R: Recorder>(
 }
 
 /// Records an entry of one kind for each of these tasks.
-fn note_all<P: Problem, R: Recorder>(
-    log: &mut R,
-    what: What,
-    tasks: &[Task<P>],
-) -> Result<(), SearchFault>
+fn note_all<N, R: Recorder>(log: &mut R, what: What, tasks: &[Task<N>]) -> Result<(), SearchFault>
     ensures ok { OnOk result (log_view (R.told log.new) (R.totals log.new) (R.number log.new) ≡ all_noted (log_view (R.told log.old) (R.totals log.old) (R.number log.old)) what (paths_of tasks.now)) }
     ensures within { OnOk result (IsWithin (R.told log.old) → IsWithin (R.told log.new)) }
     ensures err { IfErr result (λ fault. StopsNoting (log_view (R.told log.old) (R.totals log.old) (R.number log.old)) what (paths_of tasks.now) fault (log_view (R.told log.new) (R.totals log.new) (R.number log.new))) }

@@ -156,7 +156,7 @@ impl Problem for Star {
 #[derive(Drop)]
 struct Wanting<'a, P: Problem> {
     problem: &'a P,
-    tasks: Vec<Task<P>>,
+    tasks: Vec<Task<P::Node>>,
     calls: u32,
     lists: u32,
     from: u32,
@@ -209,7 +209,7 @@ impl<'a, P: Problem> Outlet<P> for Wanting<'a, P> {
     }
 
     #[tactic(auto, using(crate::proofs::Parts::sent_none))]
-    fn send(&mut self, tasks: Vec<Task<P>>) -> Result<(), Memory>
+    fn send(&mut self, tasks: Vec<Task<P::Node>>) -> Result<(), Memory>
         requires { AllByRecursion (λ task. IsTask P.Problem self.old.problem.now task.path.numbers task.node) tasks.items }
         ensures ok { OnOk result (SameBag self.new.tasks.items (self.old.tasks.items ++ tasks.items)) }
         ensures err { OnErr result (IsSentPart (λ task. IsTask P.Problem self.old.problem.now task.path.numbers task.node) self.old.tasks.items tasks.items self.new.tasks.items) }

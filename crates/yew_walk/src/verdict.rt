@@ -27,7 +27,7 @@ pub fn consider<P: Problem>(
     best: &Best,
     seat: &mut BestSeat,
     keying: Keying,
-    task: &Task<P>,
+    task: &Task<P::Node>,
 ) -> Verdict
     requires root { P.sound problem.now (P.root problem.now) }
     requires task { IsTask P.Problem problem.now task.now.path.numbers task.now.node }

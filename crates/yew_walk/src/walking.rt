@@ -116,12 +116,12 @@ fn turn<P: Problem, Q: Policy, O: Outlet<P>, T: Tally<P::Node>, R: Recorder>(
     requires space { 65535 ≤ hand.old.path.space }
     requires fits { T.fits tally.now hand.old.sum }
     requires levels_open { AllOpen P.Problem problem.now stack.old.levels }
-    ensures ok { OnOk result ((task : List ℕ) (start : O) (first : Scene P P.Node P.Kids T.Sum Q) →
+    ensures ok { OnOk result ((task : List ℕ) (start : O) (first : Scene P.Node T.Sum Q) →
         IsWalking P.Problem problem.now keying (T.join tally.now) (T.of tally.now) Q.meaning task (λ calls. O.goes start calls outlet.old) first
         (scene seat.old hand.old policy.old (O.sent outlet.old) (O.answers outlet.old) (log_view (R.told log.old) (R.totals log.old) (R.number log.old))) stack.old.levels
         → IsWalking P.Problem problem.now keying (T.join tally.now) (T.of tally.now) Q.meaning task (λ calls. O.goes start calls outlet.new) first
         (scene seat.new hand.new policy.new (O.sent outlet.new) (O.answers outlet.new) (log_view (R.told log.new) (R.totals log.new) (R.number log.new))) stack.new.levels) }
-    ensures err { IfErr result (λ fault. (task : List ℕ) (start : O) (first : Scene P P.Node P.Kids T.Sum Q) →
+    ensures err { IfErr result (λ fault. (task : List ℕ) (start : O) (first : Scene P.Node T.Sum Q) →
         IsWalking P.Problem problem.now keying (T.join tally.now) (T.of tally.now) Q.meaning task (λ calls. O.goes start calls outlet.old) first
         (scene seat.old hand.old policy.old (O.sent outlet.old) (O.answers outlet.old) (log_view (R.told log.old) (R.totals log.old) (R.number log.old))) stack.old.levels
         → IsRefused P.Problem problem.now keying (T.join tally.now) (T.of tally.now) Q.meaning task first
@@ -183,7 +183,7 @@ fn turn<P: Problem, Q: Policy, O: Outlet<P>, T: Tally<P::Node>, R: Recorder>(
 pub fn walk<P: Problem, Q: Policy, O: Outlet<P>, T: Tally<P::Node>, R: Recorder>(
     alloc: Global,
     problem: &P,
-    task: Task<P>,
+    task: Task<P::Node>,
     best: &Best,
     seat: &mut BestSeat,
     keying: Keying,

@@ -1,12 +1,13 @@
 use Rattle.std.proofs.Common.{◌≡◌}
 use Rattle.yew_mail.specs.Players.{IsSeatOf}
+use Rattle.yew_mail.specs.Star.{star_members}
 use Rattle.yew_mail.proofs.Players.{all_popped, all_pushed, one_moved}
 use Rattle.yew_mail.proofs.tests.taken_apart.Goals as goal
 
 pub loop-worker-preserved : goal.loop-worker-preserved
-loop-worker-preserved g c =
+loop-worker-preserved c =
     let both = all_popped c.loop-worker.workers.items c.pop.new.self.items c.in-Some.worker
-    (λ w. IsSeatOf c.args.mail.now c.args.problem.now w.number w.asks w.seat) c.in-Some.ensures.items c.loop-worker.invariant.workers in
+    (λ w. IsSeatOf c.args.mail.now (star_members c.args.star.now.leaves) w.number w.asks w.seat) c.in-Some.ensures.items c.loop-worker.invariant.workers in
     record {
       workers = both.0;
       seats = all_pushed c.loop-worker.seats.items c.push.new.self.items c.in-Some.worker.seat

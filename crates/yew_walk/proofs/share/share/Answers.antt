@@ -19,7 +19,7 @@ returns-in-Err-note_all-clause-err g c = record {
 pub send-requires : goal.send-requires
 send-requires g c =
     let tasks = all-appended g.P.Problem c.args.problem.now c.new-tasks.result.items c.split_lowest.new.into.items c.new-tasks.ensures.items (c.in-Ok.ensures.levels_open c.requires.levels_open).1 in
-    subst (λ (p : g.row.P.Denot). AllByRecursion (λ (task : Task g.row.P.Denot g.row.P-Node.Denot g.row.P-Kids.Denot). IsTask g.P.Problem p task.path.numbers task.node) c.split_lowest.new.into.items) (sym c.requires.outlet) tasks
+    subst (λ (p : g.row.P.Denot). AllByRecursion (λ (task : Task g.row.P-Node.Denot). IsTask g.P.Problem p task.path.numbers task.node) c.split_lowest.new.into.items) (sym c.requires.outlet) tasks
 
 pub returns-in-Ok-send-clause-ok : goal.returns-in-Ok-send-clause-ok
 returns-in-Ok-send-clause-ok g c = record {
@@ -43,5 +43,5 @@ returns-in-Err-send-clause-err g c = record {
     log_is = rw c.as_slice.ensures.value at c.in-Ok-note_all.ensures.ok;
     cause = tt;
   };
-  sent_are = inr (refl, subst (λ (p : g.row.P.Denot). IsSentPart (λ (task : Task g.row.P.Denot g.row.P-Node.Denot g.row.P-Kids.Denot). IsTask g.P.Problem p task.path.numbers task.node) (g.O.Outlet.sent c.args.outlet.now) c.split_lowest.new.into.items (g.O.Outlet.sent c.send.new.self)) c.requires.outlet c.in-Err-send.ensures.err);
+  sent_are = inr (refl, subst (λ (p : g.row.P.Denot). IsSentPart (λ (task : Task g.row.P-Node.Denot). IsTask g.P.Problem p task.path.numbers task.node) (g.O.Outlet.sent c.args.outlet.now) c.split_lowest.new.into.items (g.O.Outlet.sent c.send.new.self)) c.requires.outlet c.in-Err-send.ensures.err);
 }

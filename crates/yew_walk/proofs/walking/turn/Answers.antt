@@ -32,7 +32,7 @@ returns-in-Err-enter-clause-err g c = λ task start first w.
     let t = c.args.tally.now in
     let now = scene c.args.seat.now c.args.hand.now c.args.policy.now (g.O.Outlet.sent c.args.outlet.now) (g.O.Outlet.answers c.args.outlet.now) (log_view (g.R.Recorder.told c.args.log.now) (g.R.Recorder.totals c.args.log.now) (g.R.Recorder.number c.args.log.now)) in
     let after = scene c.enter.new.seat c.enter.new.hand c.args.policy.now (g.O.Outlet.sent c.args.outlet.now) (g.O.Outlet.answers c.args.outlet.now) (log_view (g.R.Recorder.told c.enter.new.log) (g.R.Recorder.totals c.enter.new.log) (g.R.Recorder.number c.enter.new.log)) in
-    let given : Task g.row.P.Denot g.row.P-Node.Denot g.row.P-Kids.Denot = record { path = record { numbers = c.next.new.self.path; space = length c.next.new.self.path }; node = c.in-Ok-Node.node } in
+    let given : Task g.row.P-Node.Denot = record { path = record { numbers = c.next.new.self.path; space = length c.next.new.self.path }; node = c.in-Ok-Node.node } in
     let opened = rw c.in-Ok-Node.field-0-is at (c.in-Ok-Node.ensures.levels_open c.requires.levels_open) in
     let is = opened.1 in
     let awaits = awaits-gives meaning problem c.args.keying (g.T.Tally.join t) (g.T.Tally.of t) g.Q.Policy.meaning task ranked first now c.args.stack.now.levels c.next.new.self.levels given w (rw c.in-Ok-Node.field-0-is at c.in-Ok-Node.ensures.ok) in
@@ -54,7 +54,7 @@ returns-in-Ok-ask-clause-ok g c = λ task start first w.
     let now = scene c.args.seat.now c.args.hand.now c.args.policy.now (g.O.Outlet.sent c.args.outlet.now) (g.O.Outlet.answers c.args.outlet.now) (log_view (g.R.Recorder.told c.args.log.now) (g.R.Recorder.totals c.args.log.now) (g.R.Recorder.number c.args.log.now)) in
     let mid = scene c.enter.new.seat c.enter.new.hand c.args.policy.now (g.O.Outlet.sent c.args.outlet.now) (g.O.Outlet.answers c.args.outlet.now) (log_view (g.R.Recorder.told c.enter.new.log) (g.R.Recorder.totals c.enter.new.log) (g.R.Recorder.number c.enter.new.log)) in
     let after = scene c.enter.new.seat c.enter.new.hand c.ask.new.policy (g.O.Outlet.sent c.ask.new.outlet) (g.O.Outlet.answers c.ask.new.outlet) (log_view (g.R.Recorder.told c.ask.new.log) (g.R.Recorder.totals c.ask.new.log) (g.R.Recorder.number c.ask.new.log)) in
-    let given : Task g.row.P.Denot g.row.P-Node.Denot g.row.P-Kids.Denot = record { path = record { numbers = c.next.new.self.path; space = length c.next.new.self.path }; node = c.in-Ok-Node.node } in
+    let given : Task g.row.P-Node.Denot = record { path = record { numbers = c.next.new.self.path; space = length c.next.new.self.path }; node = c.in-Ok-Node.node } in
     let opened = rw c.in-Ok-Node.field-0-is at (c.in-Ok-Node.ensures.levels_open c.requires.levels_open) in
     let is = opened.1 in
     let awaits = awaits-gives meaning problem c.args.keying (g.T.Tally.join t) (g.T.Tally.of t) g.Q.Policy.meaning task ranked first now c.args.stack.now.levels c.next.new.self.levels given w (rw c.in-Ok-Node.field-0-is at c.in-Ok-Node.ensures.ok) in
@@ -69,7 +69,7 @@ returns-in-Ok-ask-clause-more g c =
     let t = c.args.tally.now in
     let opened = rw c.in-Ok-Node.field-0-is at (c.in-Ok-Node.ensures.levels_open c.requires.levels_open) in
     let is = opened.1 in
-    let given : Task g.row.P.Denot g.row.P-Node.Denot g.row.P-Kids.Denot = record { path = record { numbers = c.next.new.self.path; space = length c.next.new.self.path }; node = c.in-Ok-Node.node } in
+    let given : Task g.row.P-Node.Denot = record { path = record { numbers = c.next.new.self.path; space = length c.next.new.self.path }; node = c.in-Ok-Node.node } in
     let a = node-turns_left meaning problem c.args.keying (g.T.Tally.join t) (g.T.Tally.of t) (meaning.ranked problem) c.in-Ok.event given is _ _ _ _ _ _ c.args.stack.now.levels c.next.new.self.levels c.enter.new.stack.levels (rw c.in-Ok-Node.field-0-is at c.in-Ok-Node.ensures.ok) c.in-Ok.ensures.ok in
     let asked = c.in-Ok-ask.ensures.ok in
     let b = asked-turns_left meaning problem g.Q.Policy.meaning _ c.args.policy.now c.ask.new.policy c.enter.new.stack.levels c.ask.new.stack.levels _ _ _ _ asked.2 in
@@ -84,7 +84,7 @@ returns-in-Err-ask-clause-err g c = λ task start first w.
     let now = scene c.args.seat.now c.args.hand.now c.args.policy.now (g.O.Outlet.sent c.args.outlet.now) (g.O.Outlet.answers c.args.outlet.now) (log_view (g.R.Recorder.told c.args.log.now) (g.R.Recorder.totals c.args.log.now) (g.R.Recorder.number c.args.log.now)) in
     let mid = scene c.enter.new.seat c.enter.new.hand c.args.policy.now (g.O.Outlet.sent c.args.outlet.now) (g.O.Outlet.answers c.args.outlet.now) (log_view (g.R.Recorder.told c.enter.new.log) (g.R.Recorder.totals c.enter.new.log) (g.R.Recorder.number c.enter.new.log)) in
     let after = scene c.enter.new.seat c.enter.new.hand c.ask.new.policy (g.O.Outlet.sent c.ask.new.outlet) (g.O.Outlet.answers c.ask.new.outlet) (log_view (g.R.Recorder.told c.ask.new.log) (g.R.Recorder.totals c.ask.new.log) (g.R.Recorder.number c.ask.new.log)) in
-    let given : Task g.row.P.Denot g.row.P-Node.Denot g.row.P-Kids.Denot = record { path = record { numbers = c.next.new.self.path; space = length c.next.new.self.path }; node = c.in-Ok-Node.node } in
+    let given : Task g.row.P-Node.Denot = record { path = record { numbers = c.next.new.self.path; space = length c.next.new.self.path }; node = c.in-Ok-Node.node } in
     let opened = rw c.in-Ok-Node.field-0-is at (c.in-Ok-Node.ensures.levels_open c.requires.levels_open) in
     let is = opened.1 in
     let awaits = awaits-gives meaning problem c.args.keying (g.T.Tally.join t) (g.T.Tally.of t) g.Q.Policy.meaning task ranked first now c.args.stack.now.levels c.next.new.self.levels given w (rw c.in-Ok-Node.field-0-is at c.in-Ok-Node.ensures.ok) in

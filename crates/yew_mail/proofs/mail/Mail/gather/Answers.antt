@@ -1,4 +1,5 @@
-use Rattle.yew_mail.proofs.Gathering.{gather_begins, gather_more, next_mail}
+use Rattle.std.proofs.Common.{arith}
+use Rattle.yew_mail.proofs.Gathering.{gather_begins, gather_more, gather_ends, next_mail}
 use Rattle.yew_mail.proofs.mail.Mail.gather.Goals as goal
 
 pub loop-other-init : goal.loop-other-init
@@ -9,3 +10,7 @@ join-requires-clause-other g c = next_mail _ _ _ _ _ _ c.loop-other.invariant c.
 
 pub loop-other-preserved : goal.loop-other-preserved
 loop-other-preserved g c = gather_more _ _ _ _ _ _ _ c.loop-other.invariant c.in-Some-pop.ensures.items c.join.ensures
+
+pub returns : goal.returns
+returns g c = gather_ends _ _ _ _ c.loop-other.invariant
+    (let long = c.loop-other.seats.ok in let none = c.in_default-pop.ensures.cases.0 in omega (arith, long, none))

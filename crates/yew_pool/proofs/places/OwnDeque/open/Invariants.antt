@@ -1,5 +1,5 @@
-use Rattle.std.specs.Prelude.{Some}
+use Rattle.yew_pool.specs.Tasks.{told_of}
 use Rattle.yew_pool.proofs.places.OwnDeque.open.Given as goal
 
 abbrev pub ghosts-start : goal.ghosts-start
-ghosts-start g a = record { problem = Some a.problem.now; whole = a.whole }
+ghosts-start g a = record { members = told_of g.P.Problem a.problem.now; whole = a.whole }

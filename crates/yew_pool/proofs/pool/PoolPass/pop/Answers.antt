@@ -1,4 +1,5 @@
 use Rattle.std.proofs.Common.{sym}
+use Rattle.yew_laws.specs.Tasks.{IsAmong}
 use Rattle.yew_pool.proofs.Taking.{is_seated, seated_pop, has_popped, none_left_as, one_left_as}
 use Rattle.yew_pool.proofs.Looking.{looked_pop, counts_each}
 use Rattle.yew_pool.proofs.pool.PoolPass.pop.Goals as goal
@@ -12,7 +13,7 @@ invariant_of-self g c =
 
 pub returns-clause-task : goal.returns-clause-task
 returns-clause-task g c =
-    has_popped g.P.Carried.carries c.self.inside.number c.self.inside.own c.pop_at.new.self c.index_mut.result.now c.pop_at.new.place
+    has_popped IsAmong c.self.inside.number c.self.inside.own c.pop_at.new.self c.index_mut.result.now c.pop_at.new.place
     c.self.inside.places.items _ c.pop_at.result c.self.view_is (sym c.index_mut.ensures.value)
     c.pop_at.ensures.task c.pop_at.ensures.sound
 

@@ -1,4 +1,5 @@
 use Rattle.std.proofs.Common.{sym}
+use Rattle.yew_laws.specs.Tasks.{IsAmong}
 use Rattle.yew_pool.proofs.Taking.{is_seated, seated, has_stolen, in_places, not_own}
 use Rattle.yew_pool.proofs.Looking.{looked_as}
 use Rattle.yew_pool.proofs.pool.PoolPass.steal.Goals as goal
@@ -14,7 +15,7 @@ invariant_of-self g c =
 pub returns-clause-task : goal.returns-clause-task
 returns-clause-task g c =
     let n = c.self.inside.number in let own = c.self.inside.own in let places = c.self.inside.places.items in
-    has_stolen g.P.Carried.carries n c.args.number own places c.index_mut.result.now c.steal.new.self _ c.steal.result c.self.view_is c.self.invariant.seated
+    has_stolen IsAmong n c.args.number own places c.index_mut.result.now c.steal.new.self _ c.steal.result c.self.view_is c.self.invariant.seated
     (in_places n c.args.number own places _ c.self.view_is c.requires.within) (not_own n c.args.number own places _ c.self.view_is c.requires.other)
     (sym c.index_mut.ensures.value) c.steal.ensures.task c.steal.ensures.sound
 
