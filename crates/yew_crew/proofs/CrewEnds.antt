@@ -18,16 +18,16 @@ or_left : (a b : Bool) → a ≡ true → (a || b) ≡ true
 or_left true b e = refl
 or_left false b e = absurd (let n : false ≡ true → ⊥ = λ h. cc in n e)
 
-module _ {P S R N K : Type 0} where
+module _ {N S R : Type 0} where
   -- a joined seat has seen the stop word set where one of its parts had
-  saw-stays : (stations : List (Station P S R N K)) (seat : OpenSeatView) → seat.saw ≡ true → (tasks_with seat stations).saw ≡ true
+  saw-stays : (stations : List (Station N S R)) (seat : OpenSeatView) → seat.saw ≡ true → (tasks_with seat stations).saw ≡ true
   saw-stays [] seat e = e
   saw-stays (s ∷ ss) seat e = saw-stays ss _ (or_left seat.saw s.tasks.saw e)
 
   module _ (s : Searched S R N) where
     -- without a fault the joined seat has the stops that the first one had
-    stops-stay : (befores : List (Station P S R N K)) (reports : List (Report P S R N K)) (seat : OpenSeatView) → AreReports s befores reports
-        → AllByRecursion (λ (b : Station P S R N K). b.tasks.stops ≡ 0) befores → AllByRecursion (λ (r : Report P S R N K). HasNoFault r.end) reports
+    stops-stay : (befores : List (Station N S R)) (reports : List (Report N S R)) (seat : OpenSeatView) → AreReports s befores reports
+        → AllByRecursion (λ (b : Station N S R). b.tasks.stops ≡ 0) befores → AllByRecursion (λ (r : Report N S R). HasNoFault r.end) reports
         → (tasks_with seat (stations_of reports)).stops ≡ seat.stops
     stops-stay [] [] seat are begins ends = refl
     stops-stay [] (r ∷ rs) seat are begins ends = absurd are
@@ -44,9 +44,9 @@ module _ {P S R N K : Type 0} where
         unstopped (Fault fault) is calm = absurd calm
 
     -- so no worker was told to stop
-    pub all-done : (befores : List (Station P S R N K)) (reports : List (Report P S R N K)) (seat : OpenSeatView) → AreReports s befores reports
-        → AllByRecursion (λ (b : Station P S R N K). b.tasks.stops ≡ 0) befores → AllByRecursion (λ (r : Report P S R N K). HasNoFault r.end) reports
-        → seat.stops ≡ 0 → ((tasks_with seat (stations_of reports)).saw ≡ true → 0 < (tasks_with seat (stations_of reports)).stops) → AllByRecursion (λ (r : Report P S R N K). IsEndDone r.end) reports
+    pub all-done : (befores : List (Station N S R)) (reports : List (Report N S R)) (seat : OpenSeatView) → AreReports s befores reports
+        → AllByRecursion (λ (b : Station N S R). b.tasks.stops ≡ 0) befores → AllByRecursion (λ (r : Report N S R). HasNoFault r.end) reports
+        → seat.stops ≡ 0 → ((tasks_with seat (stations_of reports)).saw ≡ true → 0 < (tasks_with seat (stations_of reports)).stops) → AllByRecursion (λ (r : Report N S R). IsEndDone r.end) reports
     all-done [] [] seat are begins ends none_first exact = tt
     all-done [] (r ∷ rs) seat are begins ends none_first exact = absurd are
     all-done (b ∷ bs) [] seat are begins ends none_first exact = absurd are

@@ -36,9 +36,9 @@ pub group-fits : {S R N : Type 0} (s : Searched S R N) {fits : S → Type 0} →
     → (g : Group N S) → IsBalanced s.tree s.gap s.join s.none s.of g → fits g.sum
 group-fits s {fits} tally of_fits g is = subst fits (sym is.sum_is) (fold-fits tally (of_member s.of) (λ m. of_fits m.node (length m.path)) g.members)
 
-module _ {P S R N K : Type 0} (s : Searched S R N) {fits : S → Type 0} (tally : IsTally fits s.join s.none) (of_fits : (n : N) (depth : ℕ) → fits (s.of n depth)) where
+module _ {N S R : Type 0} (s : Searched S R N) {fits : S → Type 0} (tally : IsTally fits s.join s.none) (of_fits : (n : N) (depth : ℕ) → fits (s.of n depth)) where
   -- work upon work is work: this is the invariant of a worker that walks one task after another
-  pub work-twice : (a b c : Station P S R N K) → fits a.hand.sum → IsGroupWork s a b → IsGroupWork s b c → IsGroupWork s a c
+  pub work-twice : (a b c : Station N S R) → fits a.hand.sum → IsGroupWork s a b → IsGroupWork s b c → IsGroupWork s a c
   work-twice a b c f v w =
       let g = v.group in let h = w.group in
       record {
@@ -58,7 +58,7 @@ module _ {P S R N K : Type 0} (s : Searched S R N) {fits : S → Type 0} (tally 
       }
 
   -- by induction over the workers: all of them together are a group
-  pub crew-work : (groups : List (Group N S)) (befores afters : List (Station P S R N K)) (seat : SeatView) (tasks : OpenSeatView)
+  pub crew-work : (groups : List (Group N S)) (befores afters : List (Station N S R)) (seat : SeatView) (tasks : OpenSeatView)
       → AllByRecursion (IsFresh fits) befores → AreWorked s groups befores afters
       → IsCrewWork s (all_together s.join s.none groups) seat tasks befores afters
   crew-work [] [] [] seat tasks fresh worked = record {
@@ -89,6 +89,6 @@ module _ {P S R N K : Type 0} (s : Searched S R N) {fits : S → Type 0} (tally 
         given_is = grows-both _ (given_of befores) _ (given_of afters) g'.given h.given w.moved.given_is rest.given_is;
         reads = rest.reads ∙ after-nothing seat.read b.best.read a.best.read g'.read h.read w.reads f.read_none;
         offers = rest.offers ∙ after-nothing seat.offered b.best.offered a.best.offered g'.offered h.offered w.offers f.offered_none;
-        made_is = (let m = rest.made_is in let n = w.made_is in let o = sum_by-cons (λ (x : Station P S R N K). x.tasks.made) b befores in omega arith);
-        ended_is = (let m = rest.ended_is in let n = w.ended_is in let o = sum_by-cons (λ (x : Station P S R N K). x.tasks.ended) b befores in omega arith);
+        made_is = (let m = rest.made_is in let n = w.made_is in let o = sum_by-cons (λ (x : Station N S R). x.tasks.made) b befores in omega arith);
+        ended_is = (let m = rest.ended_is in let n = w.ended_is in let o = sum_by-cons (λ (x : Station N S R). x.tasks.ended) b befores in omega arith);
       })

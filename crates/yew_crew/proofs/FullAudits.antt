@@ -10,6 +10,7 @@ use Rattle.yew_laws.specs.Order.{only, occurs}
 use Rattle.yew_laws.specs.SearchTree.{SearchTree, at_path}
 use Rattle.yew_laws.proofs.Bags.{part-trans, part-left}
 use Rattle.yew_log.specs.Groups.{sequential}
+use Rattle.yew_log.specs.HeldValues.{plain, HeldIsMaximum}
 use Rattle.yew_log.specs.Lawful.{IsBrokenLog}
 use Rattle.yew_log.specs.Notes.{Note, Judgement, path_of, path_numbers, judgements, judgement_in, paths, taken_in, sent_in, ended_in, taken_paths, sent_paths, ended_paths}
 use Rattle.yew_log.specs.Places.{AtEach}
@@ -66,7 +67,46 @@ told-all : (before after : LogView) (notes told : List Note) → IfSome before.t
 told-all before after notes told new is e =
     subst (λ (o : Option (List Note)). IfSome o (λ ns. ns ≡ notes)) e (fresh-told before.told after.told notes new (ap (λ (l : LogView). l.told) is ∙ log_after-told before notes))
 
-module _ {P S R N K : Type 0} (s : Searched S R N) (before after : Station P S R N K) where
+module _ {N : Type 0} (t : SearchTree N) (gap : ℕ) (coord : Coord) (workers number : ℕ) (tells : Type 0) (before after : LogView) (notes : List Note) where
+  -- a worker's log, which was new and had these entries, had no room for its next entry, or memory ran out
+  pub full-audit : (fault : SearchFault) (ahead : List Note) → IsCause fault after ahead
+      → IfSome before.told (λ ns. ns ≡ []) → before.number ≡ number → 1 ≤ number → number ≤ workers → after ≡ log_after before notes
+      → IsBrokenLog t gap plain notes → IsBrokenLog t gap plain (notes ++ ahead) → (workers ≡ 1 → HeldIsMaximum (notes ++ ahead))
+      → (IsSome after.told → tells) → OneOfAKind (notes ++ ahead) → IsCrewFault t gap (skeleton_of coord) workers tells fault
+  full-audit Memory ahead cause new number_is low high is keeps keeps_ahead alone telling one = tt
+  full-audit (TooManyTasks n) ahead cause new number_is low high is keeps keeps_ahead alone telling one = absurd cause
+  full-audit (AuditFull worker es ns) [] cause new number_is low high is keeps keeps_ahead alone telling one = absurd cause
+  full-audit (AuditFull worker es ns) (next ∷ more) cause new number_is low high is keeps keeps_ahead alone telling one =
+      let full = cause.1 in
+      let same = told-all before after notes full.notes new is full.are_told in
+      let own : worker ≡ number = cause.0 ∙ (ap (λ (l : LogView). l.number) is ∙ (log_after-number before notes ∙ number_is)) in
+      let front : notes ++ next ∷ more ≡ (notes ++ next ∷ []) ++ more = sym (append_assoc notes (next ∷ []) more) in
+      let in_tree = broken-in_tree t keeps_ahead.segments keeps_ahead.each in
+      let tree : AreOfTree t (notes ++ next ∷ more) = subst (AreOfTree t) (sym keeps_ahead.cut_up) in_tree in (
+        telling (subst IsSome (sym full.are_told) refl),
+        (
+          omega arith,
+          omega arith,
+          record {
+            notes = notes;
+            next = next;
+            full = record {
+              notes = notes;
+              are_told = refl;
+              entries_are = full.entries_are ∙ ap length same;
+              numbers_are = full.numbers_are ∙ ap path_numbers same;
+              past = full.past;
+            };
+            in_tree = all-front (λ note. IsSome (at_path t (path_of note))) (notes ++ next ∷ []) more (subst (AreOfTree t) front tree);
+            one_of_a_kind = kinds-front (notes ++ next ∷ []) more (subst OneOfAKind front one);
+            keeps = subst (λ kind. IsBrokenLog t gap kind notes) (sym (plain-kind coord)) keeps;
+            alone = λ e. each-front _ [] notes (next ∷ more) (alone e);
+            sequential_next = λ e. not-sequential coord e;
+          },
+        ),
+      )
+
+module _ {N S R : Type 0} (s : Searched S R N) (before after : Station N S R) where
   -- what a worker did that came to no end of its own
   abbrev pub doing_of : (ahead : List Note) → IsPartWork s ahead before after → Doing
   doing_of ahead part = record { notes = part.notes ++ ahead; took = part.took ++ part.got; sent = part.put ++ part.given }
@@ -85,32 +125,7 @@ module _ {P S R N K : Type 0} (s : Searched S R N) (before after : Station P S R
       → IfSome (s.seen before.log).told (λ ns. ns ≡ []) → (s.seen before.log).number ≡ number → 1 ≤ number → number ≤ workers
       → (workers ≡ 1 → IsAlone before) → (IsSome (s.seen after.log).told → tells)
       → OneOfAKind (faulty.part.notes ++ faulty.ahead) → IsCrewFault s.tree s.gap (skeleton_of s.coord) workers tells fault
-  faulty-crew workers number tells fault faulty new number_is low high alone telling one = by fault faulty.ahead faulty.part faulty.cause one
-    where
-      by : (fault : SearchFault) (ahead : List Note) (part : IsPartWork s ahead before after) → IsCause fault (s.seen after.log) ahead
-          → OneOfAKind (part.notes ++ ahead) → IsCrewFault s.tree s.gap (skeleton_of s.coord) workers tells fault
-      by Memory ahead part cause one = tt
-      by (TooManyTasks n) ahead part cause one = absurd cause
-      by (AuditFull worker es ns) [] part cause one = absurd cause
-      by (AuditFull worker es ns) (next ∷ more) part cause one =
-          let full = cause.1 in
-          let same = told-all (s.seen before.log) (s.seen after.log) part.notes full.notes new part.log_is full.are_told in
-          let is : worker ≡ number = cause.0 ∙ (ap (λ (l : LogView). l.number) part.log_is ∙ (log_after-number (s.seen before.log) part.notes ∙ number_is)) in
-          let front : part.notes ++ next ∷ more ≡ (part.notes ++ next ∷ []) ++ more = sym (append_assoc part.notes (next ∷ []) more) in
-          let tree : AreOfTree s.tree (part.notes ++ next ∷ more) = subst (AreOfTree s.tree) (sym part.keeps_ahead.cut_up) (broken-in_tree s.tree part.keeps_ahead.segments part.keeps_ahead.each) in (
-            telling (subst IsSome (sym full.are_told) refl),
-            (
-              omega arith,
-              omega arith,
-              record {
-                notes = part.notes;
-                next = next;
-                full = record { notes = part.notes; are_told = refl; entries_are = full.entries_are ∙ ap length same; numbers_are = full.numbers_are ∙ ap path_numbers same; past = full.past };
-                in_tree = all-front (λ note. IsSome (at_path s.tree (path_of note))) (part.notes ++ next ∷ []) more (subst (AreOfTree s.tree) front tree);
-                one_of_a_kind = kinds-front (part.notes ++ next ∷ []) more (subst OneOfAKind front one);
-                keeps = subst (λ kind. IsBrokenLog s.tree s.gap kind part.notes) (sym (plain-kind s.coord)) part.keeps;
-                alone = λ e. each-front _ [] part.notes (next ∷ more) (part.alone (alone e));
-                sequential_next = λ e. not-sequential s.coord e;
-              },
-            ),
-          )
+  faulty-crew workers number tells fault faulty new number_is low high alone telling one =
+      let part = faulty.part in
+      full-audit s.tree s.gap s.coord workers number tells (s.seen before.log) (s.seen after.log) part.notes fault faulty.ahead faulty.cause
+      new number_is low high part.log_is part.keeps part.keeps_ahead (λ e. part.alone (alone e)) telling one

@@ -55,9 +55,9 @@ module _ {N : Type 0} (t : SearchTree N) (part : Part) where
     settled = ends-append false entries (looks_at number looks) ∙ (ap (λ b. ends_closed b (looks_at number looks)) h.settled ∙ ends-looks_at number looks);
   }
 
-module _ {P S R N K : Type 0} (s : Searched S R N) where
+module _ {N S R : Type 0} (s : Searched S R N) where
   -- one more walk, under each coordination
-  pub looks-more : (path : List ℕ) (body : List Note) (segments : List Segment) (first before after : Station P S R N K)
+  pub looks-more : (path : List ℕ) (body : List Note) (segments : List Segment) (first before after : Station N S R)
       → IfSteal s.coord (λ part. (entries : List Found) × (before.mail.found ≡ first.mail.found ++ entries) × HasLooked s.tree part entries segments)
       → IfSteal s.coord (λ part. (looks : List Seen) × (after.mail.found ≡ before.mail.found ++ looks_at (first_of before.mail.numbers) looks) × AreLooksOf s.tree part body looks)
       → IfSteal s.coord (λ part. (entries : List Found) × (after.mail.found ≡ first.mail.found ++ entries) × HasLooked s.tree part entries (segments ++ segment path body ∷ []))

@@ -10,6 +10,7 @@ use Rattle.yew_laws.proofs.Bags.{same-permutation, same-sym}
 use Rattle.yew_laws.proofs.Members.{AllByRecursion-append}
 use Rattle.yew_pool.specs.Passes.{PassView}
 use Rattle.yew_pool.specs.Tasks.{IsSoundFor}
+use Rattle.yew_laws.specs.Tasks.{Members}
 use Rattle.yew_laws.specs.declared.problem.Task.{Task}
 use Rattle.yew_walk.specs.Outlets.{IsSentPart}
 use Rattle.yew_crew.specs.OpenSeats.{OpenSeatView}
@@ -77,9 +78,9 @@ module _ {T : Type 0} (P : T → Type 0) where
     sent_are = record { weighs = λ w. ap (λ l. sum_by w l) p.now_is };
   }
 
--- what is sound for a problem is sound for that of a pass which has it
-pub sound_for : {T Q : Type 0} (P : Q → T → Type 0) (about : Option Q) (problem : Q) (task : T) → about ≡ Some problem → P problem task → IsSoundFor P about task
-sound_for P about problem task is sound other other_is = let same : problem ≡ other = cc in subst (λ q. P q task) same sound
+-- what is among the members that a pass knows is sound for it
+pub sound_for : {T Q : Type 0} (P : Q → T → Type 0) (about : Option Q) (members : Q) (task : T) → about ≡ Some members → P members task → IsSoundFor P about task
+sound_for P about members task is sound other other_is = let same : members ≡ other = cc in subst (λ q. P q task) same sound
 
 module _ {T Q : Type 0} where
   -- a pass of which only the list put changes
@@ -108,11 +109,11 @@ as_many before after tasks old new more bag counted is =
     ones [] = refl
     ones (x ∷ xs) = let s = sum_by-cons (λ _. 1) x xs in let r = ones xs in omega arith
 
-pub spawns_later : {P N K : Type 0} (before after : SpawningView P N K) (pass : PassView (Task P N K) P) (seat : OpenSeatView) (tasks : List (Task P N K)) (more : ℕ)
+pub spawns_later : {P N : Type 0} (before after : SpawningView P N) (pass : PassView (Task N) (Members N)) (seat : OpenSeatView) (tasks : List (Task N)) (more : ℕ)
     → before.pass ≡ pass → before.tasks ≡ seat → after.tasks.made ≡ seat.made + more → more ≡ length tasks → SameBag after.pass.put (pass.put ++ tasks) → IsLaterSpawning before after
 spawns_later before after pass seat tasks more p q r t bag =
     record {
       made = (
           let a = as_many pass.put after.pass.put tasks seat.made after.tasks.made more bag r t in
-          let b = ap (λ (x : PassView (Task _ _ _) _). length x.put) p in let c = ap (λ (x : OpenSeatView). x.made) q in omega arith);
+          let b = ap (λ (x : PassView (Task _) _). length x.put) p in let c = ap (λ (x : OpenSeatView). x.made) q in omega arith);
     }

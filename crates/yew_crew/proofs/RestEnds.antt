@@ -93,9 +93,9 @@ module _ {S R N : Type 0} (s : Searched S R N) where
     pub best_is : incumbent_of hand' ≡ best_after Plain (incumbent_of hand) group.visits
     pub sum_is : hand'.sum ≡ s.join hand.sum group.sum
 
-module _ {P S R N K : Type 0} (s : Searched S R N) (workers : ℕ) {fits : S → Type 0} (tally : IsTally fits s.join s.none) (of_fits : (n : N) (depth : ℕ) → fits (s.of n depth)) where
+module _ {N S R : Type 0} (s : Searched S R N) (workers : ℕ) {fits : S → Type 0} (tally : IsTally fits s.join s.none) (of_fits : (n : N) (depth : ℕ) → fits (s.of n depth)) where
   -- the first worker, with what the caller walked in its place
-  pub first-finished : (before after : Station P S R N K) (hand : Hand S) (log : R) → (done : IsDone s before after)
+  pub first-finished : (before after : Station N S R) (hand : Hand S) (log : R) → (done : IsDone s before after)
       → (rest : IsRestWork s (entries done.segments.segments) after.hand after.log hand log)
       → before.hand.sum ≡ s.none → before.hand.holds ≡ false → IfSome (s.seen before.log).told (λ ns. ns ≡ []) → (s.seen before.log).totals ≡ no_totals → (s.seen before.log).number ≡ 1
       → occurs [] (taken rest.group) ≡ 0 → (rest.segments ≡ []) ⊎ (1 < workers) → (workers ≡ 1 → IsAlone before)
@@ -141,7 +141,7 @@ module _ {P S R N K : Type 0} (s : Searched S R N) (workers : ℕ) {fits : S →
       }
 
   -- a station as it began, for its log and its hand
-  pub record IsNew (number : ℕ) (before : Station P S R N K) : Type 0 where
+  pub record IsNew (number : ℕ) (before : Station N S R) : Type 0 where
     pub sum_none : before.hand.sum ≡ s.none
     pub holds_none : before.hand.holds ≡ false
     pub told : IfSome (s.seen before.log).told (λ ns. ns ≡ [])
@@ -149,19 +149,19 @@ module _ {P S R N K : Type 0} (s : Searched S R N) (workers : ℕ) {fits : S →
     pub number_is : (s.seen before.log).number ≡ number
 
   -- the other workers, from this number on
-  abbrev pub AreDone : ℕ → List (Station P S R N K) → List (Station P S R N K) → Type 0
+  abbrev pub AreDone : ℕ → List (Station N S R) → List (Station N S R) → Type 0
   AreDone number [] [] = Unit {0}
   AreDone number [] (after ∷ afters) = ⊥
   AreDone number (before ∷ befores) [] = ⊥
   AreDone number (before ∷ befores) (after ∷ afters) = (IsNew number before × IsDone s before after) × AreDone (suc number) befores afters
 
-  abbrev pub finishes : (number : ℕ) (befores afters : List (Station P S R N K)) → AreDone number befores afters → List (Finish S R N)
+  abbrev pub finishes : (number : ℕ) (befores afters : List (Station N S R)) → AreDone number befores afters → List (Finish S R N)
   finishes number [] [] are = []
   finishes number [] (after ∷ afters) are = []
   finishes number (before ∷ befores) [] are = []
   finishes number (before ∷ befores) (after ∷ afters) are = finish are.0.1.work.group are.0.1.segments.segments after ∷ finishes (suc number) befores afters are.1
 
-  pub others-finished : (number : ℕ) (befores afters : List (Station P S R N K)) (are : AreDone number befores afters)
+  pub others-finished : (number : ℕ) (befores afters : List (Station N S R)) (are : AreDone number befores afters)
       → (workers ≡ 1 → AllByRecursion IsAlone befores) → AreFinished s workers number (finishes number befores afters are)
   others-finished number [] [] are alone = tt
   others-finished number [] (a ∷ afters) are alone = tt

@@ -15,9 +15,9 @@ all_but_last Q [] x a = (tt, a.0)
 all_but_last Q (y ∷ ys) x a = let rest = all_but_last Q ys x a.1 in ((a.0, rest.0), rest.1)
 
 -- where each report, place by place, is that of its station, there is one report for each station
-pub are_reports : {P S R N K : Type 0} (s : Searched S R N) (stations : List (Station P S R N K)) (reports : List (Report P S R N K))
+pub are_reports : {N S R : Type 0} (s : Searched S R N) (stations : List (Station N S R)) (reports : List (Report N S R))
     → length reports ≡ length stations
-    → ((i : ℕ) (d : Station P S R N K) (e : Report P S R N K) → i < length stations → IsReport s (slice_index_or stations i d) (slice_index_or reports i e)) → AreReports s stations reports
+    → ((i : ℕ) (d : Station N S R) (e : Report N S R) → i < length stations → IsReport s (slice_index_or stations i d) (slice_index_or reports i e)) → AreReports s stations reports
 are_reports s [] [] len each = tt
 are_reports s [] (r ∷ rs) len each = absurd (omega arith)
 are_reports s (b ∷ bs) [] len each = absurd (omega arith)
@@ -30,20 +30,25 @@ all_at Q (y ∷ ys) zero x a h e = subst Q (sym e) a.0
 all_at Q (y ∷ ys) (suc i) x a h e = all_at Q ys i x a.1 (omega arith) e
 
 -- a station more at the end is joined last
-pub best_with_last : {P S R N K : Type 0} (stations : List (Station P S R N K)) (seat : SeatView) (last : Station P S R N K)
+pub best_with_last : {N S R : Type 0} (stations : List (Station N S R)) (seat : SeatView) (last : Station N S R)
     → best_with seat (stations ++ last ∷ []) ≡ best_with (best_with seat stations) (last ∷ [])
 best_with_last [] seat last = refl
 best_with_last (s ∷ ss) seat last = best_with_last ss _ last
 
-pub tasks_with_last : {P S R N K : Type 0} (stations : List (Station P S R N K)) (seat : OpenSeatView) (last : Station P S R N K)
+pub tasks_with_last : {N S R : Type 0} (stations : List (Station N S R)) (seat : OpenSeatView) (last : Station N S R)
     → tasks_with seat (stations ++ last ∷ []) ≡ tasks_with (tasks_with seat stations) (last ∷ [])
 tasks_with_last [] seat last = refl
 tasks_with_last (s ∷ ss) seat last = tasks_with_last ss _ last
 
 -- a station more at the end, and its report
-pub reports_push : {P S R N K : Type 0} (s : Searched S R N) (stations : List (Station P S R N K)) (reports : List (Report P S R N K)) (station : Station P S R N K) (report : Report P S R N K)
+pub reports_push : {N S R : Type 0} (s : Searched S R N) (stations : List (Station N S R)) (reports : List (Report N S R)) (station : Station N S R) (report : Report N S R)
     → AreReports s stations reports → IsReport s station report → AreReports s (stations ++ station ∷ []) (reports ++ report ∷ [])
 reports_push s [] [] b r are is = (is, tt)
 reports_push s [] (q ∷ qs) b r are is = absurd are
 reports_push s (u ∷ ts) [] b r are is = absurd are
 reports_push s (u ∷ ts) (q ∷ qs) b r are is = (are.0, reports_push s ts qs b r are.1 is)
+
+-- what holds at each place holds of all members
+pub all_from : {X : Type 0} (Q : X → Type 0) (xs : List X) → ((i : ℕ) (e : X) → i < length xs → Q (slice_index_or xs i e)) → AllByRecursion Q xs
+all_from Q [] each = tt
+all_from Q (x ∷ xs) each = (each 0 x (omega arith), all_from Q xs (λ i e h. each (suc i) e (omega arith)))

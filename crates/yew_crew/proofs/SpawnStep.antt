@@ -5,6 +5,7 @@ use Rattle.std.specs.List.{sum_by}
 use Rattle.std.proofs.lemmas.List.{length-append, length-map}
 use Rattle.yew_best.specs.Seats.{SeatView}
 use Rattle.yew_laws.specs.declared.problem.Problem.{Ghosts}
+use Rattle.yew_laws.specs.Tasks.{Members}
 use Rattle.yew_laws.specs.declared.problem.Task.{Task}
 use Rattle.yew_laws.specs.Bag.{SameBag}
 use Rattle.yew_laws.specs.SearchTree.{SearchTree, search_tree, at_path}
@@ -43,17 +44,17 @@ sends-spawned t (Depth d) spawns x is has = handed-depth t d x is has
 sends-spawned t (Budget b) spawns x is has = handed-budget t b x is has
 sends-spawned t (Steal chunk) spawns x is has = absurd spawns
 
-paths-append : {S N K : Type 0} (xs ys : List (Task S N K)) → paths_of (xs ++ ys) ≡ paths_of xs ++ paths_of ys
+paths-append : {N : Type 0} (xs ys : List (Task N)) → paths_of (xs ++ ys) ≡ paths_of xs ++ paths_of ys
 paths-append [] ys = refl
 paths-append (x ∷ xs) ys = ap (λ l. x.path.numbers ∷ l) (paths-append xs ys)
 
 -- more tasks, as paths
-pub paths-grow : {S N K : Type 0} (before after tasks : List (Task S N K)) (ps : List (List ℕ)) → SameBag after (before ++ tasks) → SameBag (paths_of tasks) ps → SameBag (paths_of after) (paths_of before ++ ps)
+pub paths-grow : {N : Type 0} (before after tasks : List (Task N)) (ps : List (List ℕ)) → SameBag after (before ++ tasks) → SameBag (paths_of tasks) ps → SameBag (paths_of after) (paths_of before ++ ps)
 paths-grow before after tasks ps a b = same-trans (same-map (λ task. task.path.numbers) a) (same-trans (same-is (paths-append before tasks)) (same-append (same-refl (paths_of before)) b))
 
 module _ {P N K S R Q : Type 0} (meaning : Ghosts P N K) (problem : P) (join : S → S → S) (none : S) (of : N → ℕ → S) (seen : R → LogView) (coord : Coord) (policy : PolicyMeaning Q) where
   -- the walk, the tasks that it sent to the pool, and the one that it ended
-  pub spawn-step : (task : List ℕ) (made : List OutletCall → Type 0) (number : ℕ) (mail : MailSeatView (Task P N K) P) (b0 b1 : SeatView) (h0 h1 : Hand S) (q0 q1 : Q) (o0 mid o1 : SpawningView P N K) (answers0 answers1 : Option (List Bool)) (l0 l1 : R)
+  pub spawn-step : (task : List ℕ) (made : List OutletCall → Type 0) (number : ℕ) (mail : MailSeatView (Task N) (Members N)) (b0 b1 : SeatView) (h0 h1 : Hand S) (q0 q1 : Q) (o0 mid o1 : SpawningView P N) (answers0 answers1 : Option (List Bool)) (l0 l1 : R)
       → IsRanked (meaning.sound problem) (meaning.children problem) (meaning.rank problem) → meaning.sound problem (meaning.root problem) → IsSome (at_path (search_tree meaning problem) task)
       → Spawns coord
       → ((answers : List Bool) (body : List Note) → HasPolicy (search_tree meaning problem) policy q0 answers body → HasGroups (SkeletonGroup (search_tree meaning problem) (skeleton_of coord)) body)
@@ -67,11 +68,11 @@ module _ {P N K S R Q : Type 0} (meaning : Ghosts P N K) (problem : P) (join : S
       let w = walk-parts meaning problem s policy task made (scene b0 h0 q0 o0.pass.put answers0 (seen l0)) (scene b1 h1 q1 mid.pass.put answers1 (seen l1)) walked in
       let has = groups w.answers w.body w.policy_groups in
       let all_spawned = sends (segment task w.body) w.is_segment has in
-      let pass_is : o1.pass ≡ mid.pass = ap (λ (o : SpawningView P N K). o.pass) ended in
-      let tasks_is : o1.tasks ≡ record mid.tasks { ended = mid.tasks.ended + 1 } = ap (λ (o : SpawningView P N K). o.tasks) ended in
+      let pass_is : o1.pass ≡ mid.pass = ap (λ (o : SpawningView P N). o.pass) ended in
+      let tasks_is : o1.tasks ≡ record mid.tasks { ended = mid.tasks.ended + 1 } = ap (λ (o : SpawningView P N). o.tasks) ended in
       let pass_now : o1.pass ≡ record o0.pass { put = mid.pass.put } = pass_is ∙ kept.pass in
       let put_grew : SameBag (paths_of o1.pass.put) (paths_of o0.pass.put ++ spawned_paths w.body) =
-      same-trans (same-is (ap (λ (p : PassView (Task P N K) P). paths_of p.put) pass_is)) (paths-grow o0.pass.put mid.pass.put w.tasks (spawned_paths w.body) w.sent_are (same-trans w.tasks_are (same-is all_spawned))) in
+      same-trans (same-is (ap (λ (p : PassView (Task N) (Members N)). paths_of p.put) pass_is)) (paths-grow o0.pass.put mid.pass.put w.tasks (spawned_paths w.body) w.sent_are (same-trans w.tasks_are (same-is all_spawned))) in
       let none_handed : SameBag [] (handed_paths w.body) = record { weighs = λ h. (let a = sent-dealt h w.body in let b = ap (λ l. sum_by h l) all_spawned in omega arith) } in
       let mid_same = kept.tasks.same in
       record {
@@ -81,7 +82,7 @@ module _ {P N K S R Q : Type 0} (meaning : Ghosts P N K) (problem : P) (join : S
         given = [];
         walk = record { is_segment = w.is_segment; is_broken = segment-broken (search_tree meaning problem) ranked root (segment task w.body) w.is_segment there (sent-there (search_tree meaning problem) ranked root meaning problem refl w.tasks (sent_paths w.body) w.sound w.tasks_are); groups = has; rises = w.rises; judged = w.judged };
         moved = record {
-          took_is = same-is (ap (λ (p : PassView (Task P N K) P). paths_of p.took) pass_now ∙ sym (append-none (paths_of o0.pass.took)));
+          took_is = same-is (ap (λ (p : PassView (Task N) (Members N)). paths_of p.took) pass_now ∙ sym (append-none (paths_of o0.pass.took)));
           put_is = put_grew;
           got_is = same-is (sym (append-none (paths_of mail.got)));
           given_is = same-is (sym (append-none (paths_of mail.given)));
@@ -93,7 +94,7 @@ module _ {P N K S R Q : Type 0} (meaning : Ghosts P N K) (problem : P) (join : S
         are_visited = w.are_visited;
         sum_is = w.sum_is;
         best_is = w.best_is;
-        made_is = counts o1.tasks.made mid.tasks.made (length o0.pass.put) o0.tasks.made (length mid.pass.put) _ _ _ _ (ap (λ (t : OpenSeatView). t.made) tasks_is) later.made (same-length w.sent_are) (length-append o0.pass.put w.tasks) (same-length w.tasks_are) (length-map w.tasks (λ (x : Task P N K). x.path.numbers)) (ap length all_spawned);
+        made_is = counts o1.tasks.made mid.tasks.made (length o0.pass.put) o0.tasks.made (length mid.pass.put) _ _ _ _ (ap (λ (t : OpenSeatView). t.made) tasks_is) later.made (same-length w.sent_are) (length-append o0.pass.put w.tasks) (same-length w.tasks_are) (length-map w.tasks (λ (x : Task N). x.path.numbers)) (ap length all_spawned);
         ended_is = ap (λ (t : OpenSeatView). t.ended) tasks_is ∙ ap (λ (t : OpenSeatView). t.ended + 1) mid_same;
         no_stop = ap (λ (t : OpenSeatView). t.stops) tasks_is ∙ ap (λ (t : OpenSeatView). t.stops) mid_same;
         knows = λ k. ap (λ (t : OpenSeatView). t.knows) tasks_is ∙ kept.tasks.knows k;
@@ -101,14 +102,14 @@ module _ {P N K S R Q : Type 0} (meaning : Ghosts P N K) (problem : P) (join : S
           number = refl;
           best = seat_is;
           best_share = share_is;
-          pool = ap (λ (p : PassView (Task P N K) P). p.pool) pass_now;
-          pass_number = ap (λ (p : PassView (Task P N K) P). p.number) pass_now;
-          pass_share = ap (λ (p : PassView (Task P N K) P). p.share) pass_now;
-          pass_problem = ap (λ (p : PassView (Task P N K) P). p.problem) pass_now;
+          pool = ap (λ (p : PassView (Task N) (Members N)). p.pool) pass_now;
+          pass_number = ap (λ (p : PassView (Task N) (Members N)). p.number) pass_now;
+          pass_share = ap (λ (p : PassView (Task N) (Members N)). p.share) pass_now;
+          pass_members = ap (λ (p : PassView (Task N) (Members N)). p.members) pass_now;
           mail = refl;
           mail_share = refl;
           mail_numbers = refl;
-          mail_problem = refl;
+          mail_members = refl;
           tasks = ap (λ (t : OpenSeatView). t.tasks) tasks_is ∙ ap (λ (t : OpenSeatView). t.tasks) mid_same;
           tasks_share = ap (λ (t : OpenSeatView). t.share) tasks_is ∙ ap (λ (t : OpenSeatView). t.share) mid_same;
         };

@@ -41,10 +41,10 @@ sent-dealt h (handed p ∷ ns) = let r = sent-dealt h ns in let a = sum_by-cons 
 
 module _ {S N K Sum Q R : Type 0} (meaning : Ghosts S N K) (problem : S) (s : Searched Sum R N) (policy : PolicyMeaning Q) where
   -- what a walk gives, over the entries behind its Taken entry
-  pub record WalkParts (task : List ℕ) (first now : Scene S N K Sum Q) : Type 0 where
+  pub record WalkParts (task : List ℕ) (first now : Scene N Sum Q) : Type 0 where
     pub body : List Note
     pub members : List (Member N)
-    pub tasks : List (Task S N K)
+    pub tasks : List (Task N)
     pub answers : List Bool
     pub policy_groups : HasPolicy (search_tree meaning problem) policy first.state answers body
     pub is_segment : IsSegment (search_tree meaning problem) (segment task body)
@@ -60,7 +60,7 @@ module _ {S N K Sum Q R : Type 0} (meaning : Ghosts S N K) (problem : S) (s : Se
     pub sound : AllByRecursion (λ task'. IsTask meaning problem task'.path.numbers task'.node) tasks
     pub answers_are : now.answers ≡ option_map (λ given. given ++ answers) first.answers
 
-  pub walk-parts : (task : List ℕ) (made : List OutletCall → Type 0) (first now : Scene S N K Sum Q) → IsWalked meaning problem Plain s.join s.of policy task s.none made first now → WalkParts task first now
+  pub walk-parts : (task : List ℕ) (made : List OutletCall → Type 0) (first now : Scene N Sum Q) → IsWalked meaning problem Plain s.join s.of policy task s.none made first now → WalkParts task first now
   walk-parts task made first now w =
       let t = search_tree meaning problem in
       let body = w.walk.body in

@@ -55,23 +55,23 @@ no-others : {X : Type 0} (xs : List X) (P : X → Type 0) (workers : ℕ) → su
 no-others [] P workers count one = tt
 no-others (x ∷ xs) P workers count one = absurd (omega arith)
 
-module _ {P S R N K : Type 0} (s : Searched S R N) (workers : ℕ) {fits : S → Type 0} (tally : IsTally fits s.join s.none) (of_fits : (n : N) (depth : ℕ) → fits (s.of n depth)) where
+module _ {N S R : Type 0} (s : Searched S R N) (workers : ℕ) {fits : S → Type 0} (tally : IsTally fits s.join s.none) (of_fits : (n : N) (depth : ℕ) → fits (s.of n depth)) where
   -- the groups of workers that came to their ends
-  pub done-worked : (number : ℕ) (befores afters : List (Station P S R N K)) (are : AreDone s workers tally of_fits number befores afters)
+  pub done-worked : (number : ℕ) (befores afters : List (Station N S R)) (are : AreDone s workers tally of_fits number befores afters)
       → AreWorked s (map (λ (f : Finish S R N). f.group) (finishes s workers tally of_fits number befores afters are)) befores afters
   done-worked number [] [] are = tt
   done-worked number [] (a ∷ afters) are = absurd are
   done-worked number (b ∷ befores) [] are = absurd are
   done-worked number (b ∷ befores) (a ∷ afters) are = ((are.0.1.work, refl), done-worked (suc number) befores afters are.1)
 
-  finishes-count : (number : ℕ) (befores afters : List (Station P S R N K)) (are : AreDone s workers tally of_fits number befores afters)
+  finishes-count : (number : ℕ) (befores afters : List (Station N S R)) (are : AreDone s workers tally of_fits number befores afters)
       → length (finishes s workers tally of_fits number befores afters are) ≡ length befores
   finishes-count number [] [] are = refl
   finishes-count number [] (a ∷ afters) are = absurd are
   finishes-count number (b ∷ befores) [] are = absurd are
   finishes-count number (b ∷ befores) (a ∷ afters) are = ap suc (finishes-count (suc number) befores afters are.1)
 
-  finishes-balanced : (number : ℕ) (befores afters : List (Station P S R N K)) (are : AreDone s workers tally of_fits number befores afters)
+  finishes-balanced : (number : ℕ) (befores afters : List (Station N S R)) (are : AreDone s workers tally of_fits number befores afters)
       → IsBalanced s.tree s.gap s.join s.none s.of (all_of s.join s.none (finishes s workers tally of_fits number befores afters are))
   finishes-balanced number [] [] are = idle-balanced s.tree s.gap s.join s.none tally s.of of_fits
   finishes-balanced number [] (a ∷ afters) are = absurd are
@@ -85,7 +85,7 @@ pub all_of-groups : {S R N : Type 0} (join : S → S → S) (none : S) (fs : Lis
 all_of-groups join none [] = refl
 all_of-groups join none (f ∷ fs) = ap (together join f.group) (all_of-groups join none fs)
 
-module _ {P S R N K : Type 0} (s : Searched S R N) (workers : ℕ) {fits : S → Type 0} (tally : IsTally fits s.join s.none) (of_fits : (n : N) (depth : ℕ) → fits (s.of n depth)) (before after : Station P S R N K) (befores afters : List (Station P S R N K)) (hand : Hand S) (log : R) where
+module _ {N S R : Type 0} (s : Searched S R N) (workers : ℕ) {fits : S → Type 0} (tally : IsTally fits s.join s.none) (of_fits : (n : N) (depth : ℕ) → fits (s.of n depth)) (before after : Station N S R) (befores afters : List (Station N S R)) (hand : Hand S) (log : R) where
   -- The first worker and the others came to their ends, and the caller walked all that they left, in the first one's place
   pub record IsCrewEnd : Type 0 where
     pub done : IsDone s before after

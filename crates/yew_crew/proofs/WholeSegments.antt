@@ -101,8 +101,8 @@ module _ {N : Type 0} (t : SearchTree N) {sound : N → Type 0} (ranked : IsRank
       }
 
   -- what is sent as tasks is of the tree
-  pub sent-there : {S K : Type 0} (meaning : Ghosts S N K) (problem : S) → search_tree meaning problem ≡ t → (tasks : List (Task S N K)) (ps : List (List ℕ)) → AllByRecursion (λ task. IsTask meaning problem task.path.numbers task.node) tasks → SameBag (paths_of tasks) ps → AllByRecursion (λ p. IsSome (at_path t p)) ps
+  pub sent-there : {S K : Type 0} (meaning : Ghosts S N K) (problem : S) → search_tree meaning problem ≡ t → (tasks : List (Task N)) (ps : List (List ℕ)) → AllByRecursion (λ task. IsTask meaning problem task.path.numbers task.node) tasks → SameBag (paths_of tasks) ps → AllByRecursion (λ p. IsSome (at_path t p)) ps
   sent-there meaning problem is tasks ps sound_tasks same =
       part-all is_path is_path-same is_path-is (λ p. IsSome (at_path t p)) (same-part (same-sym same))
-      (AllByRecursion-map (λ p. IsSome (at_path t p)) (λ (task : Task _ _ _). task.path.numbers) tasks
+      (AllByRecursion-map (λ p. IsSome (at_path t p)) (λ (task : Task _). task.path.numbers) tasks
       (AllByRecursion-weaker (λ task. IsTask meaning problem task.path.numbers task.node) (λ task. IsSome (at_path t task.path.numbers)) (λ task k. subst (λ (tree : SearchTree N). IsSome (at_path tree task.path.numbers)) is (subst IsSome (sym k.found) refl)) tasks sound_tasks))

@@ -13,7 +13,7 @@ use Rattle.yew_laws.proofs.Members.{AllByRecursion-weaker}
 use Rattle.yew_log.specs.HeldValues.{plain, HeldRises, HeldIsMaximum, IsJudged}
 use Rattle.yew_log.specs.Lawful.{tasks_of}
 use Rattle.yew_log.specs.Notes.{Note, taken, visited, cut, spawned, handed, ended, Judgement, paths, values, held_values, visits, cuts, judgements, visit_in, cut_in, sent_paths}
-use Rattle.yew_log.specs.Segment.{Segment, entries, entries_in, IsSegment}
+use Rattle.yew_log.specs.Segment.{Segment, entries, entries_in, IsSegment, IsBroken}
 use Rattle.yew_walk.specs.LogViews.{LogView}
 use Rattle.yew_walk.specs.WorkerLogs.{KeyedSegment, segments_of, KeysRise, ComesFirst}
 use Rattle.yew_walk.proofs.WorkerLogs.{walks-rise, walks-judged, walks-exact}
@@ -43,7 +43,7 @@ all-plain Q [] a = tt
 all-plain Q (s ∷ ss) a = (a.0, all-plain Q ss a.1)
 
 -- the held values of the entries, in order, are as a bag those of the visits and of the cuts
-held-dealt : (weight : ℕ → ℕ) (notes : List Note) → sum_by weight (held_values (judgements notes)) ≡ sum_by weight (held_values (visits notes ++ cuts notes))
+pub held-dealt : (weight : ℕ → ℕ) (notes : List Note) → sum_by weight (held_values (judgements notes)) ≡ sum_by weight (held_values (visits notes ++ cuts notes))
 held-dealt weight [] = refl
 held-dealt weight (visited p w held ∷ notes) =
     let r = held-dealt weight notes in
@@ -69,9 +69,9 @@ held-dealt weight (ended p ∷ notes) = held-dealt weight notes
 pub each-segment : {S R N : Type 0} (s : Searched S R N) (segments : List Segment) → AllByRecursion (IsWalkSegment s) segments → AllByRecursion (IsSegment s.tree) segments
 each-segment s segments a = AllByRecursion-weaker (IsWalkSegment s) (IsSegment s.tree) (λ x p. p.is_segment) segments a
 
-module _ {P S R N K : Type 0} (t : SearchTree N) (join : S → S → S) (none : S) (of : N → ℕ → S) (seen : R → LogView) (coord : Coord) where
+module _ {N S R : Type 0} (t : SearchTree N) (join : S → S → S) (none : S) (of : N → ℕ → S) (seen : R → LogView) (coord : Coord) where
   -- the group of a worker that has nothing left to walk
-  abbrev pub group-of : (first now : Station P S R N K) → IsWorking (searched t join none of seen coord 0) [] first now → Group N S
+  abbrev pub group-of : (first now : Station N S R) → IsWorking (searched t join none of seen coord 0) [] first now → Group N S
   group-of first now w = record {
     took = w.took;
     got = w.got;
@@ -87,7 +87,7 @@ module _ {P S R N K : Type 0} (t : SearchTree N) (join : S → S → S) (none : 
     sum = fold_of join none (of_member of) w.members;
   }
 
-  pub work-group : (first now : Station P S R N K) → IsWorking (searched t join none of seen coord 0) [] first now → IsGroupWork (searched t join none of seen coord 0) first now
+  pub work-group : (first now : Station N S R) → IsWorking (searched t join none of seen coord 0) [] first now → IsGroupWork (searched t join none of seen coord 0) first now
   work-group first now w =
       let s : Searched S R N = searched t join none of seen coord 0 in
       let notes = entries w.segments in
@@ -139,7 +139,7 @@ module _ {P S R N K : Type 0} (t : SearchTree N) (join : S → S → S) (none : 
       count (x ∷ xs) = let r = count xs in omega arith
 
   -- and its segments are those of its log
-  pub work-segments : (first now : Station P S R N K) → (w : IsWorking (searched t join none of seen coord 0) [] first now) → AreSegments (searched t join none of seen coord 0) (group-of first now w) first now
+  pub work-segments : (first now : Station N S R) → (w : IsWorking (searched t join none of seen coord 0) [] first now) → AreSegments (searched t join none of seen coord 0) (group-of first now w) first now
   work-segments first now w =
       let s : Searched S R N = searched t join none of seen coord 0 in
       let are = each-segment s w.segments w.walks in
@@ -155,6 +155,7 @@ module _ {P S R N K : Type 0} (t : SearchTree N) (join : S → S → S) (none : 
           due = subst (λ l. IsJudged t 0 plain (entries l)) is (walks-judged t plain (map plain_walk w.segments) first.best now.best w.goes keys
               (all-plain (λ x. IsJudged t 0 plain (entries_in x)) w.segments (AllByRecursion-weaker (IsWalkSegment s) _ (λ x p. p.judged) w.segments w.walks)));
         };
+        broken = AllByRecursion-weaker (IsWalkSegment s) (IsBroken t) (λ x p. p.is_broken) w.segments w.walks;
         visits_are = refl;
         cuts_are = refl;
         tasks_are = same-trans w.taken_are (same-is (append-nil (tasks_of w.segments)));
@@ -165,7 +166,7 @@ module _ {P S R N K : Type 0} (t : SearchTree N) (join : S → S → S) (none : 
         looks = w.looks;
       }
 
-  pub work-done : (first now : Station P S R N K) → IsWorking (searched t join none of seen coord 0) [] first now → now.tasks.last ≡ Some 0 → (first.tasks.knows ≡ true → now.tasks.knew ≡ true)
+  pub work-done : (first now : Station N S R) → IsWorking (searched t join none of seen coord 0) [] first now → now.tasks.last ≡ Some 0 → (first.tasks.knows ≡ true → now.tasks.knew ≡ true)
       → (first.tasks.share ≡ first.tasks.tasks.seats → now.tasks.made % 2 ^ 64 ≡ now.tasks.ended % 2 ^ 64) → IsDone (searched t join none of seen coord 0) first now
   unfolding work-group
   work-done first now w last knew counted = record {
@@ -177,3 +178,12 @@ module _ {P S R N K : Type 0} (t : SearchTree N) (join : S → S → S) (none : 
     counted = counted;
     no_stop = w.no_stop;
   }
+
+  -- these are the group and the segments of the worker's own entries
+  pub work-group-is : (first now : Station N S R) → (w : IsWorking (searched t join none of seen coord 0) [] first now) → (work-group first now w).group ≡ group-of first now w
+  unfolding work-group
+  work-group-is first now w = refl
+
+  pub work-segments-are : (first now : Station N S R) → (w : IsWorking (searched t join none of seen coord 0) [] first now) → (work-segments first now w).segments ≡ w.segments
+  unfolding work-segments
+  work-segments-are first now w = refl

@@ -57,12 +57,12 @@ pub sent-parts : (notes : List Note) (put given : List (List ℕ)) → SameBag p
 sent-parts notes put given a b = record { weighs = λ h. (let d = sent-dealt h notes in let e = sum_by-append h put given in let f = a.weighs h in let g = b.weighs h in omega arith) }
 
 -- what a worker has done, noted and found
-abbrev pub finish : {P S R N K : Type 0} → Group N S → List Segment → Station P S R N K → Finish S R N
+abbrev pub finish : {N S R : Type 0} → Group N S → List Segment → Station N S R → Finish S R N
 finish group segments after = record { group = group; notes = entries segments; hand = after.hand; log = after.log }
 
-module _ {P S R N K : Type 0} (s : Searched S R N) (workers : ℕ) {fits : S → Type 0} (tally : IsTally fits s.join s.none) (of_fits : (n : N) (depth : ℕ) → fits (s.of n depth)) where
+module _ {N S R : Type 0} (s : Searched S R N) (workers : ℕ) {fits : S → Type 0} (tally : IsTally fits s.join s.none) (of_fits : (n : N) (depth : ℕ) → fits (s.of n depth)) where
   -- a worker that found no open task, for whom nothing was walked afterwards
-  pub done-finished : (number : ℕ) (before after : Station P S R N K) → (done : IsDone s before after) → before.hand.sum ≡ s.none → before.hand.holds ≡ false
+  pub done-finished : (number : ℕ) (before after : Station N S R) → (done : IsDone s before after) → before.hand.sum ≡ s.none → before.hand.holds ≡ false
       → IfSome (s.seen before.log).told (λ ns. ns ≡ []) → (s.seen before.log).totals ≡ no_totals → (s.seen before.log).number ≡ number → (workers ≡ 1 → IsAlone before)
       → IsFinished s workers number (finish done.work.group done.segments.segments after)
   done-finished number before after done sum_none holds_none told totals number_is alone =

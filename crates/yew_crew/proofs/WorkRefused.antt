@@ -77,7 +77,7 @@ module _ {N : Type 0} (t : SearchTree N) where
         }
 
     -- whole segments alone
-    without-last : (first now : SeatView) (segments : List Segment) → AllByRecursion (IsWalkSegment s) segments → SeatGoesOn t first (map plain_walk segments) now → IsBrokenWork first now (entries segments)
+    pub without-last : (first now : SeatView) (segments : List Segment) → AllByRecursion (IsWalkSegment s) segments → SeatGoesOn t first (map plain_walk segments) now → IsBrokenWork first now (entries segments)
     without-last first now segments walks on =
         let is = plain-segments segments in
         let keys = plain-rise segments in

@@ -63,18 +63,18 @@ fold-append {join} {none} tally of of_fits (x ∷ xs) ys =
     ap (join (of x)) (fold-append tally of of_fits xs ys) ∙ sym (tally.assoc (of x) _ _ (of_fits x) (fold-fits tally of of_fits xs) (fold-fits tally of of_fits ys))
 
 -- bags that grow twice
-grow : {X : Type 0} (first mid last more again : List X) → SameBag mid (first ++ more) → SameBag last (mid ++ again) → SameBag last (first ++ (more ++ again))
+pub grow : {X : Type 0} (first mid last more again : List X) → SameBag mid (first ++ more) → SameBag last (mid ++ again) → SameBag last (first ++ (more ++ again))
 grow first mid last more again a b = record {
   weighs = λ w. (
       let e = a.weighs w in let f = b.weighs w in let g = sum_by-append w first more in let h = sum_by-append w mid again in
       let i = sum_by-append w first (more ++ again) in let j = sum_by-append w more again in omega arith);
 }
 
-stay : {X : Type 0} (first mid last more : List X) → SameBag mid (first ++ more) → SameBag last (mid ++ []) → SameBag last (first ++ more)
+pub stay : {X : Type 0} (first mid last more : List X) → SameBag mid (first ++ more) → SameBag last (mid ++ []) → SameBag last (first ++ more)
 stay first mid last more a b = record { weighs = λ w. (let e = a.weighs w in let f = b.weighs w in let g = sum_by-append w mid [] in omega arith) }
 
-module _ {P S R N K : Type 0} where
-  pub same-twice : (a b c : Station P S R N K) → IsSameStation a b → IsSameStation b c → IsSameStation a c
+module _ {N S R : Type 0} where
+  pub same-twice : (a b c : Station N S R) → IsSameStation a b → IsSameStation b c → IsSameStation a c
   same-twice a b c p q = record {
     number = q.number ∙ p.number;
     best = q.best ∙ p.best;
@@ -82,18 +82,18 @@ module _ {P S R N K : Type 0} where
     pool = q.pool ∙ p.pool;
     pass_number = q.pass_number ∙ p.pass_number;
     pass_share = q.pass_share ∙ p.pass_share;
-    pass_problem = q.pass_problem ∙ p.pass_problem;
+    pass_members = q.pass_members ∙ p.pass_members;
     mail = q.mail ∙ p.mail;
     mail_share = q.mail_share ∙ p.mail_share;
     mail_numbers = q.mail_numbers ∙ p.mail_numbers;
-    mail_problem = q.mail_problem ∙ p.mail_problem;
+    mail_members = q.mail_members ∙ p.mail_members;
     tasks = q.tasks ∙ p.tasks;
     tasks_share = q.tasks_share ∙ p.tasks_share;
   }
 
   module _ (s : Searched S R N) {fits : S → Type 0} (tally : IsTally fits s.join s.none) (of_fits : (n : N) (depth : ℕ) → fits (s.of n depth)) where
     -- a task that the worker still had to walk was walked
-    pub work-more : (path : List ℕ) (rest : List (List ℕ)) (first before after : Station P S R N K) → fits first.hand.sum → IsWorking s (path ∷ rest) first before → IsStep s path before after → IsWorking s rest first after
+    pub work-more : (path : List ℕ) (rest : List (List ℕ)) (first before after : Station N S R) → fits first.hand.sum → IsWorking s (path ∷ rest) first before → IsStep s path before after → IsWorking s rest first after
     work-more path rest first before after f w x =
         let seg = segment path x.body in
         let member_fits : (m : Member N) → fits (of_member s.of m) = λ m. of_fits m.node (length m.path) in

@@ -29,8 +29,8 @@ pub whole-bodies : {N : Type 0} (t : SearchTree N) (before segments : List Segme
 whole-bodies t before [] a = tt
 whole-bodies t before (s ∷ ss) a = ((λ none. absurd (subst (Begins s.task) none a.0.begins)), whole-bodies t (before ++ s ∷ []) ss a.1)
 
-module _ {P S R N K : Type 0} (t : SearchTree N) (join : S → S → S) (none : S) (of : N → ℕ → S) (seen : R → LogView) (coord : Coord) where
-  pub work-part : (rest : List (List ℕ)) (first now : Station P S R N K) → IsWorking (searched t join none of seen coord 0) rest first now → IsPartWork (searched t join none of seen coord 0) [] first now
+module _ {N S R : Type 0} (t : SearchTree N) (join : S → S → S) (none : S) (of : N → ℕ → S) (seen : R → LogView) (coord : Coord) where
+  pub work-part : (rest : List (List ℕ)) (first now : Station N S R) → IsWorking (searched t join none of seen coord 0) rest first now → IsPartWork (searched t join none of seen coord 0) [] first now
   work-part rest first now w =
       let s : Searched S R N = searched t join none of seen coord 0 in
       let notes = entries w.segments in
@@ -79,5 +79,5 @@ module _ {P S R N K : Type 0} (t : SearchTree N) (join : S → S → S) (none : 
         alone = λ a. subst HeldIsMaximum (sym same) (subst (λ l. HeldIsMaximum (entries l)) is (walks-exact t (map plain_walk w.segments) first.best now.best w.goes keys a.none_offered a.whole));
       }
 
-  pub work-stopped : (rest : List (List ℕ)) (first now : Station P S R N K) → IsWorking (searched t join none of seen coord 0) rest first now → now.tasks.saw ≡ true → IsStopped (searched t join none of seen coord 0) first now
+  pub work-stopped : (rest : List (List ℕ)) (first now : Station N S R) → IsWorking (searched t join none of seen coord 0) rest first now → now.tasks.saw ≡ true → IsStopped (searched t join none of seen coord 0) first now
   work-stopped rest first now w saw = record { part = work-part rest first now w; saw = saw; no_stop = w.no_stop }

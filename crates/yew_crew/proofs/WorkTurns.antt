@@ -4,6 +4,7 @@ use Rattle.std.specs.Prelude.{◌≤◌}
 use Rattle.std.proofs.lemmas.List.Sums.{sum_by-append, sum_by-cons}
 use Rattle.yew_laws.specs.Bag.{SameBag}
 use Rattle.yew_laws.specs.Fold.{IsTally}
+use Rattle.yew_laws.specs.Tasks.{Members}
 use Rattle.yew_laws.specs.declared.problem.Task.{Task}
 use Rattle.yew_laws.proofs.Bags.{same-refl, same-is, same-map, same-trans}
 use Rattle.yew_log.specs.Lawful.{tasks_of}
@@ -18,11 +19,11 @@ use Rattle.yew_crew.specs.declared.coord.Coord.{Coord}
 use Rattle.yew_crew.specs.declared.coord.Coord.TheVariants.{Depth, Budget, Steal}
 use Rattle.yew_crew.specs.declared.station.Station.{Station}
 
-stays : {X : Type 0} (xs : List X) → SameBag xs (xs ++ [])
+pub stays : {X : Type 0} (xs : List X) → SameBag xs (xs ++ [])
 stays xs = same-is (sym (append-nil xs))
 
-module _ {P S R N K : Type 0} where
-  pub same-itself : (a : Station P S R N K) → IsSameStation a a
+module _ {N S R : Type 0} where
+  pub same-itself : (a : Station N S R) → IsSameStation a a
   same-itself a = record {
     number = refl;
     best = refl;
@@ -30,23 +31,23 @@ module _ {P S R N K : Type 0} where
     pool = refl;
     pass_number = refl;
     pass_share = refl;
-    pass_problem = refl;
+    pass_members = refl;
     mail = refl;
     mail_share = refl;
     mail_numbers = refl;
-    mail_problem = refl;
+    mail_members = refl;
     tasks = refl;
     tasks_share = refl;
   }
 
   module _ (s : Searched S R N) where
-    none-looked : (coord : Coord) (a : Station P S R N K) → IfSteal coord (λ part. (found : List Found) × (a.mail.found ≡ a.mail.found ++ found) × HasLooked s.tree part found [])
+    none-looked : (coord : Coord) (a : Station N S R) → IfSteal coord (λ part. (found : List Found) × (a.mail.found ≡ a.mail.found ++ found) × HasLooked s.tree part found [])
     none-looked (Depth d) a = tt
     none-looked (Budget b) a = tt
     none-looked (Steal chunk) a = ([], sym (append-nil a.mail.found), record { looks = []; each = tt; busy = refl; settled = refl })
 
     -- a worker that has done nothing yet
-    pub work-begins : {fits : S → Type 0} → IsTally fits s.join s.none → (a : Station P S R N K) → fits a.hand.sum → 65535 ≤ a.hand.path.space → IsWorking s [] a a
+    pub work-begins : {fits : S → Type 0} → IsTally fits s.join s.none → (a : Station N S R) → fits a.hand.sum → 65535 ≤ a.hand.path.space → IsWorking s [] a a
     work-begins tally a f room = record {
       segments = [];
       members = [];
@@ -74,7 +75,7 @@ module _ {P S R N K : Type 0} where
     }
 
     -- its pass took a task, which it has still to walk
-    pub work-took : (rest : List (List ℕ)) (first before : Station P S R N K) (pass : PassView (Task P N K) P) (task : Task P N K) → IsWorking s rest first before → HasTaken before.pool task pass → IsWorking s (task.path.numbers ∷ rest) first (record before { pool = pass })
+    pub work-took : (rest : List (List ℕ)) (first before : Station N S R) (pass : PassView (Task N) (Members N)) (task : Task N) → IsWorking s rest first before → HasTaken before.pool task pass → IsWorking s (task.path.numbers ∷ rest) first (record before { pool = pass })
     work-took rest first before pass task w h =
         let is = h.same in
         record {
@@ -88,14 +89,14 @@ module _ {P S R N K : Type 0} where
           moved = record {
             took_is = record {
               weighs = λ x. (
-                  let a = (same-map (λ (t : Task P N K). t.path.numbers) h.took).weighs x in
+                  let a = (same-map (λ (t : Task N). t.path.numbers) h.took).weighs x in
                   let b = w.moved.took_is.weighs x in
                   let c = sum_by-cons x task.path.numbers (paths_of before.pool.took) in
                   let d = sum_by-cons x task.path.numbers w.took in
                   let e = sum_by-append x (paths_of first.pool.took) w.took in
                   let g = sum_by-append x (paths_of first.pool.took) (task.path.numbers ∷ w.took) in omega arith);
             };
-            put_is = same-trans (same-is (ap (λ (p : PassView (Task P N K) P). paths_of p.put) is)) w.moved.put_is;
+            put_is = same-trans (same-is (ap (λ (p : PassView (Task N) (Members N)). paths_of p.put) is)) w.moved.put_is;
             got_is = w.moved.got_is;
             given_is = w.moved.given_is;
           };
@@ -122,14 +123,14 @@ module _ {P S R N K : Type 0} where
             number = w.same.number;
             best = w.same.best;
             best_share = w.same.best_share;
-            pool = ap (λ (p : PassView (Task P N K) P). p.pool) is ∙ w.same.pool;
-            pass_number = ap (λ (p : PassView (Task P N K) P). p.number) is ∙ w.same.pass_number;
-            pass_share = ap (λ (p : PassView (Task P N K) P). p.share) is ∙ w.same.pass_share;
-            pass_problem = ap (λ (p : PassView (Task P N K) P). p.problem) is ∙ w.same.pass_problem;
+            pool = ap (λ (p : PassView (Task N) (Members N)). p.pool) is ∙ w.same.pool;
+            pass_number = ap (λ (p : PassView (Task N) (Members N)). p.number) is ∙ w.same.pass_number;
+            pass_share = ap (λ (p : PassView (Task N) (Members N)). p.share) is ∙ w.same.pass_share;
+            pass_members = ap (λ (p : PassView (Task N) (Members N)). p.members) is ∙ w.same.pass_members;
             mail = w.same.mail;
             mail_share = w.same.mail_share;
             mail_numbers = w.same.mail_numbers;
-            mail_problem = w.same.mail_problem;
+            mail_members = w.same.mail_members;
             tasks = w.same.tasks;
             tasks_share = w.same.tasks_share;
           };
@@ -138,7 +139,7 @@ module _ {P S R N K : Type 0} where
         }
 
     -- its seat at the open tasks loaded a word, or its pass found deques empty
-    pub work-quiet : (rest : List (List ℕ)) (first before : Station P S R N K) (tasks : OpenSeatView) (empty : List ℕ) → IsWorking s rest first before
+    pub work-quiet : (rest : List (List ℕ)) (first before : Station N S R) (tasks : OpenSeatView) (empty : List ℕ) → IsWorking s rest first before
         → tasks ≡ record before.tasks { last = tasks.last; knew = tasks.knew; saw = tasks.saw } → IsWorking s rest first (record before { pool = record before.pool { found_empty = empty }; tasks = tasks })
     work-quiet rest first before tasks empty w is = record {
       segments = w.segments;
@@ -168,11 +169,11 @@ module _ {P S R N K : Type 0} where
         pool = w.same.pool;
         pass_number = w.same.pass_number;
         pass_share = w.same.pass_share;
-        pass_problem = w.same.pass_problem;
+        pass_members = w.same.pass_members;
         mail = w.same.mail;
         mail_share = w.same.mail_share;
         mail_numbers = w.same.mail_numbers;
-        mail_problem = w.same.mail_problem;
+        mail_members = w.same.mail_members;
         tasks = ap (λ (t : OpenSeatView). t.tasks) is ∙ w.same.tasks;
         tasks_share = ap (λ (t : OpenSeatView). t.share) is ∙ w.same.tasks_share;
       };

@@ -1,7 +1,10 @@
 pub mod CrewSearch
 pub mod Crews
+pub mod Ending
 pub mod Gathering
 pub mod Groups
+pub mod HandingLaws
+pub mod Idling
 pub mod Joining
 pub mod Looks
 pub mod OpenRule
@@ -9,6 +12,11 @@ pub mod OpenSeats
 pub mod OpenViews
 pub mod OutletLaws
 pub mod Outlets
+pub mod OwnBoxes
 pub mod Reports
+pub mod Resting
+pub mod Rounds
+pub mod Starting
 pub mod Stations
+pub mod Turns
 pub mod Working

@@ -7,6 +7,7 @@ use Rattle.yew_mail.specs.declared.view.Ask.TheVariants.{Nowhere}
 use Rattle.yew_walk.specs.Dealt.{part_of_chunk}
 use Rattle.yew_walk.specs.LogViews.{LogView}
 use Rattle.yew_best.specs.Seats.{SeatView}
+use Rattle.yew_laws.specs.Tasks.{Members}
 use Rattle.yew_laws.specs.declared.problem.Task.{Task}
 use Rattle.yew_mail.specs.Seats.{SeatView as MailSeatView}
 use Rattle.yew_pool.specs.Passes.{PassView}
@@ -54,36 +55,36 @@ IfSteal (Depth depth) fact = Unit {0}
 IfSteal (Budget every) fact = Unit {0}
 IfSteal (Steal chunk) fact = fact (part_of_chunk chunk)
 
-module _ {P S R N K : Type 0} where
+module _ {N S R : Type 0} where
   -- the station of these parts
-  abbrev pub station : ℕ → SeatView → PassView (Task P N K) P → MailSeatView (Task P N K) P → OpenSeatView → Hand S → R → Station P S R N K
+  abbrev pub station : ℕ → SeatView → PassView (Task N) (Members N) → MailSeatView (Task N) (Members N) → OpenSeatView → Hand S → R → Station N S R
   station number best pool mail tasks hand log = record { number = number; best = best; pool = pool; mail = mail; tasks = tasks; hand = hand; log = log }
 
   -- A station is ready for a worker: its seats and its pass are of the shared objects and about the problem, its number is that of its mailbox, where it has no ask, the path of its hand has its space, and its sum fits
-  pub record IsReady (fits : S → Type 0) (problem : P) (shared : Shared P N K) (station : Station P S R N K) : Type 0 where
+  pub record IsReady (fits : S → Type 0) (members : Members N) (shared : Shared N) (station : Station N S R) : Type 0 where
     pub of_best : station.best.best ≡ shared.best
     pub of_pool : station.pool.pool ≡ shared.pool
     pub of_mail : station.mail.mail ≡ shared.mail
     pub of_tasks : station.tasks.tasks ≡ shared.tasks
-    pub pass_problem : station.pool.problem ≡ Some problem
-    pub mail_problem : station.mail.problem ≡ Some problem
+    pub pass_members : station.pool.members ≡ Some members
+    pub mail_members : station.mail.members ≡ Some members
     pub mail_number : first_of station.mail.numbers ≡ station.number
     pub no_ask : station.mail.ask ≡ Nowhere
     pub space : 65535 ≤ station.hand.path.space
     pub fits_sum : fits station.hand.sum
 
   -- Whatever a worker did, its number, the objects of its seats and of its pass, their shares and their problem are those that they were
-  pub record IsSameStation (before after : Station P S R N K) : Type 0 where
+  pub record IsSameStation (before after : Station N S R) : Type 0 where
     pub number : after.number ≡ before.number
     pub best : after.best.best ≡ before.best.best
     pub best_share : after.best.share ≡ before.best.share
     pub pool : after.pool.pool ≡ before.pool.pool
     pub pass_number : after.pool.number ≡ before.pool.number
     pub pass_share : after.pool.share ≡ before.pool.share
-    pub pass_problem : after.pool.problem ≡ before.pool.problem
+    pub pass_members : after.pool.members ≡ before.pool.members
     pub mail : after.mail.mail ≡ before.mail.mail
     pub mail_share : after.mail.share ≡ before.mail.share
     pub mail_numbers : after.mail.numbers ≡ before.mail.numbers
-    pub mail_problem : after.mail.problem ≡ before.mail.problem
+    pub mail_members : after.mail.members ≡ before.mail.members
     pub tasks : after.tasks.tasks ≡ before.tasks.tasks
     pub tasks_share : after.tasks.share ≡ before.tasks.share

@@ -1,20 +1,23 @@
 -- A worker at work: what it has done so far, and what one more walk adds to it.
 use Rattle.std.specs.Prelude.{◌≡◌, ℕ, ◌+◌, ◌≤◌, true, List, [], ◌++◌, map, length}
 use Rattle.std.specs.List.{AllByRecursion}
-use Rattle.yew_laws.specs.Bag.{SameBag}
+use Rattle.yew_laws.specs.Bag.{SameBag, PartOfBag}
 use Rattle.yew_laws.specs.Fold.{fold_of, of_member}
+use Rattle.yew_laws.specs.SearchTree.{below}
 use Rattle.yew_laws.specs.Tree.{Member}
 use Rattle.yew_log.specs.Groups.{HasGroups, SkeletonGroup}
 use Rattle.yew_log.specs.HeldValues.{plain, HeldRises, IsJudged}
-use Rattle.yew_log.specs.Lawful.{tasks_of}
-use Rattle.yew_log.specs.Notes.{Note, visits, spawned_paths, handed_paths}
-use Rattle.yew_log.specs.Segment.{Segment, segment, entries, entries_in, IsSegment, IsBroken}
+use Rattle.yew_log.specs.Lawful.{IsBrokenWalk, tasks_of}
+use Rattle.yew_log.specs.Notes.{Note, visits, spawned_paths, handed_paths, sent_paths}
+use Rattle.yew_log.specs.Segment.{Segment, segment, entries, entries_in, covered_paths, IsSegment, IsBroken}
 use Rattle.yew_mail.specs.Views.{first_of}
 use Rattle.yew_mail.specs.declared.boxes.Seen.{Seen}
 use Rattle.yew_mail.specs.declared.view.Found.{Found}
+use Rattle.yew_walk.specs.declared.fault.SearchFault.{SearchFault}
 use Rattle.yew_walk.specs.declared.keying.Keying.TheVariants.{Plain}
 use Rattle.yew_walk.specs.Hands.{incumbent_of, best_after, AreVisited}
 use Rattle.yew_walk.specs.LogViews.{log_after}
+use Rattle.yew_walk.specs.Scenes.{IsCause}
 use Rattle.yew_walk.specs.Seats.{SeatGoes}
 use Rattle.yew_walk.specs.WorkerLogs.{KeyedSegment, SeatGoesOn}
 use Rattle.yew_crew.specs.Looks.{AreLooksOf, HasLooked}
@@ -36,9 +39,9 @@ module _ {S R N : Type 0} (s : Searched S R N) where
     pub rises : HeldRises (entries_in seg)
     pub judged : IsJudged s.tree 0 plain (entries_in seg)
 
-module _ {P S R N K : Type 0} (s : Searched S R N) where
+module _ {N S R : Type 0} (s : Searched S R N) where
   -- one walk of this task, counted as ended
-  pub record IsStep (path : List ℕ) (before after : Station P S R N K) : Type 0 where
+  pub record IsStep (path : List ℕ) (before after : Station N S R) : Type 0 where
     pub body : List Note
     pub members : List (Member N)
     pub put : List (List ℕ)
@@ -60,8 +63,25 @@ module _ {P S R N K : Type 0} (s : Searched S R N) where
     pub space : 65535 ≤ after.hand.path.space
     pub looks : IfSteal s.coord (λ part. (looks : List Seen) × (after.mail.found ≡ before.mail.found ++ looks_at (first_of before.mail.numbers) looks) × AreLooksOf s.tree part body looks)
 
+  -- A walk of this task that was refused: what was noted of it is a part of its tree, and what was sent was noted. Where the log was full, the entry that it has no room for is ahead
+  pub record IsBrokenStep (path : List ℕ) (fault : SearchFault) (before after : Station N S R) : Type 0 where
+    pub notes : List Note
+    pub ahead : List Note
+    pub put : List (List ℕ)
+    pub given : List (List ℕ)
+    pub moved : Moved before after [] put [] given
+    pub log_is : s.seen after.log ≡ log_after (s.seen before.log) notes
+    pub keeps : IsBrokenWalk s.tree 0 plain path notes
+    pub keeps_ahead : IsBrokenWalk s.tree 0 plain path (notes ++ ahead)
+    pub part : PartOfBag (covered_paths s.tree (notes ++ ahead)) (below s.tree path)
+    pub goes : SeatGoes s.tree Plain before.best (notes ++ ahead) after.best
+    pub sent_are : PartOfBag (put ++ given) (sent_paths notes)
+    pub cause : IsCause fault (s.seen after.log) ahead
+    pub no_stop : after.tasks.stops ≡ before.tasks.stops
+    pub same : IsSameStation before after
+
   -- What a worker has done so far: it has walked segments, one for each task that it took, but for the rest that it has still to walk
-  pub record IsWorking (rest : List (List ℕ)) (first now : Station P S R N K) : Type 0 where
+  pub record IsWorking (rest : List (List ℕ)) (first now : Station N S R) : Type 0 where
     pub segments : List Segment
     pub members : List (Member N)
     pub took : List (List ℕ)

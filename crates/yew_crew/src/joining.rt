@@ -9,7 +9,7 @@ use crate::open_tasks::OpenSeat;
 use crate::station::{End, Report, Shared, Station};
 use std::alloc::Global;
 use yew_best::BestSeat;
-use yew_laws::{Memory, Problem};
+use yew_laws::Memory;
 use yew_mail::MailSeat;
 use yew_pool::PoolPass;
 use yew_walk::{Hand, SearchFault};
@@ -17,11 +17,11 @@ use yew_walk::{Hand, SearchFault};
 /// What the stations of workers carried, part by part: the seats at the incumbent word and at the open tasks are joined,
 /// and all else stands in the order of the workers. The fault is that of the least worker number that has one.
 #[derive(Drop)]
-pub(crate) struct Parts<P: Problem, S, R> {
+pub(crate) struct Parts<N, S, R> {
     pub best: BestSeat,
     pub tasks: OpenSeat,
-    pub passes: Vec<PoolPass<P>>,
-    pub seats: Vec<MailSeat<P>>,
+    pub passes: Vec<PoolPass<N>>,
+    pub seats: Vec<MailSeat<N>>,
     pub hands: Vec<Hand<S>>,
     pub logs: Vec<R>,
     pub fault: Option<SearchFault>,
@@ -29,26 +29,26 @@ pub(crate) struct Parts<P: Problem, S, R> {
 
 // Takes off the last report, if there is one.
 #[tactic(auto, using(crate::proofs::Rows::all_but_last))]
-fn last_off<P: Problem, S: Drop, R: Drop>(
-    shared: &Shared<P>,
-    reports: &mut Vec<Report<P, S, R>>,
-) -> Option<Report<P, S, R>>
-    requires { AllByRecursion (λ (r : Report P S R P.Node P.Kids). IsSeated shared.now.best shared.now.tasks r.station) reports.old.items }
+fn last_off<N: Drop, S: Drop, R: Drop>(
+    shared: &Shared<N>,
+    reports: &mut Vec<Report<N, S, R>>,
+) -> Option<Report<N, S, R>>
+    requires { AllByRecursion (λ (r : Report N S R). IsSeated shared.now.best shared.now.tasks r.station) reports.old.items }
     ensures items { reports.old.items ≡ reports.new.items ++ option_to_list result }
     ensures len { IsSome result → vec_len reports.new < vec_len reports.old }
     ensures none { IsNone result → reports.old.items ≡ [] }
     ensures last { IfSome result (λ report. IsSeated shared.now.best shared.now.tasks report.station) }
-    ensures others { AllByRecursion (λ (r : Report P S R P.Node P.Kids). IsSeated shared.now.best shared.now.tasks r.station) reports.new.items }
+    ensures others { AllByRecursion (λ (r : Report N S R). IsSeated shared.now.best shared.now.tasks r.station) reports.new.items }
 {
     let _ = shared;
     reports.pop()
 }
 
 // Puts what one more worker carried behind what others carried.
-fn join_one<P: Problem, S: Drop, R: Drop>(
-    shared: &Shared<P>,
-    parts: &mut Parts<P, S, R>,
-    report: Report<P, S, R>,
+fn join_one<N: Drop, S: Drop, R: Drop>(
+    shared: &Shared<N>,
+    parts: &mut Parts<N, S, R>,
+    report: Report<N, S, R>,
 ) -> Result<(), Memory>
     requires best { parts.old.best.best ≡ shared.now.best }
     requires tasks { parts.old.tasks.tasks ≡ shared.now.tasks }
@@ -90,14 +90,14 @@ fn note_fault(fault: &mut Option<SearchFault>, end: End)
 }
 
 // Takes reports apart, in order, behind what is there already.
-fn take_apart<P: Problem, S: Drop, R: Drop>(
-    shared: &Shared<P>,
-    parts: &mut Parts<P, S, R>,
-    mut reports: Vec<Report<P, S, R>>,
+fn take_apart<N: Drop, S: Drop, R: Drop>(
+    shared: &Shared<N>,
+    parts: &mut Parts<N, S, R>,
+    mut reports: Vec<Report<N, S, R>>,
 ) -> Result<(), Memory>
     requires best { parts.old.best.best ≡ shared.now.best }
     requires tasks { parts.old.tasks.tasks ≡ shared.now.tasks }
-    requires seated { AllByRecursion (λ (r : Report P S R P.Node P.Kids). IsSeated shared.now.best shared.now.tasks r.station) reports.items }
+    requires seated { AllByRecursion (λ (r : Report N S R). IsSeated shared.now.best shared.now.tasks r.station) reports.items }
     ensures ok { OnOk result (IsJoined parts.old reports.items parts.new) }
     ensures same_best { OnOk result (parts.new.best.best ≡ parts.old.best.best) }
     ensures same_tasks { OnOk result (parts.new.tasks.tasks ≡ parts.old.tasks.tasks) }
@@ -110,10 +110,10 @@ fn take_apart<P: Problem, S: Drop, R: Drop>(
 }
 
 // What the first worker carried.
-fn begin<P: Problem, S: Drop, R: Drop>(
+fn begin<N: Drop, S: Drop, R: Drop>(
     alloc: Global,
-    report: Report<P, S, R>,
-) -> Result<Parts<P, S, R>, Memory>
+    report: Report<N, S, R>,
+) -> Result<Parts<N, S, R>, Memory>
     ensures { IfOk result (IsFirst report) }
 {
     let Report { station, end } = report;
@@ -152,13 +152,13 @@ fn begin<P: Problem, S: Drop, R: Drop>(
 /// # Errors
 ///
 /// `Memory` where there was none for the lists.
-pub(crate) fn join_reports<P: Problem, S: Drop, R: Drop>(
+pub(crate) fn join_reports<N: Drop, S: Drop, R: Drop>(
     alloc: Global,
-    shared: &Shared<P>,
-    mut reports: Vec<Report<P, S, R>>,
-) -> Result<Parts<P, S, R>, Memory>
+    shared: &Shared<N>,
+    mut reports: Vec<Report<N, S, R>>,
+) -> Result<Parts<N, S, R>, Memory>
     requires some { 0 < length reports.items }
-    requires seated { AllByRecursion (λ (r : Report P S R P.Node P.Kids). IsSeated shared.now.best shared.now.tasks r.station) reports.items }
+    requires seated { AllByRecursion (λ (r : Report N S R). IsSeated shared.now.best shared.now.tasks r.station) reports.items }
     ensures parts { IfOk result (AreParts reports.items) }
     ensures best { IfOk result (λ parts. parts.best.best ≡ shared.now.best) }
     ensures tasks { IfOk result (λ parts. parts.tasks.tasks ≡ shared.now.tasks) }

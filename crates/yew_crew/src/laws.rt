@@ -49,7 +49,7 @@ pub fn group_covers<P: Problem, T: Tally<P::Node>>(problem: &P, tally: &T)
 
 /// What all workers of a crew have done is what one group has done, by which the joined seats and all passes have grown.
 pub fn crew_is_group<P: Problem, T: Tally<P::Node>, R: Recorder>(problem: &P, tally: &T)
-    ensures { (coord : coord.Coord) (gap : ℕ) (groups : List (Group P.Node T.Sum)) (befores afters : List (Station P T.Sum R P.Node P.Kids)) (seat : SeatView) (tasks : OpenSeatView) →
+    ensures { (coord : coord.Coord) (gap : ℕ) (groups : List (Group P.Node T.Sum)) (befores afters : List (Station P.Node T.Sum R)) (seat : SeatView) (tasks : OpenSeatView) →
         let s = searched (search_tree P.Problem problem.now) (T.join tally.now) (T.none tally.now) (T.of tally.now) (λ log. log_view (R.told log) (R.totals log) (R.number log)) coord gap in
         AllByRecursion (IsFresh (T.fits tally.now)) befores
         → AreWorked s groups befores afters
@@ -75,7 +75,7 @@ pub fn root_is_taken<P: Problem, T: Tally<P::Node>>(problem: &P, tally: &T)
 
 /// Work upon work is work. So it is what a worker keeps that walks one task after another.
 pub fn work_goes_on<P: Problem, T: Tally<P::Node>, R: Recorder>(problem: &P, tally: &T)
-    ensures { (coord : coord.Coord) (gap : ℕ) (a b c : Station P T.Sum R P.Node P.Kids) →
+    ensures { (coord : coord.Coord) (gap : ℕ) (a b c : Station P.Node T.Sum R) →
         let s = searched (search_tree P.Problem problem.now) (T.join tally.now) (T.none tally.now) (T.of tally.now) (λ log. log_view (R.told log) (R.totals log) (R.number log)) coord gap in
         T.fits tally.now a.hand.sum → IsGroupWork s a b → IsGroupWork s b c → IsGroupWork s a c }
 {
@@ -86,14 +86,14 @@ pub fn work_goes_on<P: Problem, T: Tally<P::Node>, R: Recorder>(problem: &P, tal
 /// Where no report ended with a fault, every report ended with Done: the seats of a crew begin without a stop, and the
 /// joined seat has seen the stop word set only where it has a stop, as its last load tells.
 pub fn all_are_done<P: Problem, T: Tally<P::Node>, R: Recorder>(problem: &P, tally: &T)
-    ensures { (coord : coord.Coord) (gap : ℕ) (befores : List (Station P T.Sum R P.Node P.Kids)) (reports : List (Report P T.Sum R P.Node P.Kids)) (seat : OpenSeatView) →
+    ensures { (coord : coord.Coord) (gap : ℕ) (befores : List (Station P.Node T.Sum R)) (reports : List (Report P.Node T.Sum R)) (seat : OpenSeatView) →
         let s = searched (search_tree P.Problem problem.now) (T.join tally.now) (T.none tally.now) (T.of tally.now) (λ log. log_view (R.told log) (R.totals log) (R.number log)) coord gap in
         AreReports s befores reports
-        → AllByRecursion (λ (b : Station P T.Sum R P.Node P.Kids). b.tasks.stops ≡ 0) befores
-        → AllByRecursion (λ (r : Report P T.Sum R P.Node P.Kids). HasNoFault r.end) reports
+        → AllByRecursion (λ (b : Station P.Node T.Sum R). b.tasks.stops ≡ 0) befores
+        → AllByRecursion (λ (r : Report P.Node T.Sum R). HasNoFault r.end) reports
         → seat.stops ≡ 0
         → ((tasks_with seat (stations_of reports)).saw ≡ true → 0 < (tasks_with seat (stations_of reports)).stops)
-        → AllByRecursion (λ (r : Report P T.Sum R P.Node P.Kids). IsEndDone r.end) reports }
+        → AllByRecursion (λ (r : Report P.Node T.Sum R). IsEndDone r.end) reports }
 {
     let _ = problem;
     let _ = tally;

@@ -1,5 +1,6 @@
 //! A worker that spawns its tasks into the pool.
 ghost use Rattle.std.specs.Prelude.{◌≡◌, ◌≤◌, ◌∷◌, [], ℕ, List, Bool, OnOk, IfErr};
+ghost use Rattle.yew_laws.specs.Tasks.{Members};
 ghost use Rattle.yew_laws.specs.declared.problem.Task.{Task as TaskValue};
 ghost use Rattle.yew_laws.specs.SearchTree.{search_tree, IsTask};
 ghost use Rattle.yew_log.specs.Groups.{HasGroups, SkeletonGroup};
@@ -8,7 +9,7 @@ ghost use Rattle.yew_log.specs.Policies.{HasPolicy};
 ghost use Rattle.yew_mail.specs.Seats.{SeatView as MailSeatView};
 ghost use Rattle.yew_walk.specs.LogViews.{log_view};
 ghost use Rattle.yew_crew.specs.Stations.{searched, skeleton_of, Spawns, station};
-ghost use Rattle.yew_crew.specs.Working.{IsStep};
+ghost use Rattle.yew_crew.specs.Working.{IsStep, IsBrokenStep};
 
 use crate::coord::Coord;
 use crate::spawning::Spawning;
@@ -19,12 +20,16 @@ use yew_laws::{Problem, Task};
 use yew_log::Recorder;
 use yew_walk::{Hand, Keying, Policy, SearchFault, walk};
 
-/// Walks one task to its end, and counts it as ended.
+/// Walks one task to its end, and counts it as ended. A walk that is refused is not counted.
+///
+/// # Errors
+///
+/// As `walk`: `Memory` where memory ran out, and `AuditFull` where the log has no room for the next entry.
 #[allow(clippy::too_many_arguments)]
 pub fn walk_spawning<P: Problem, Q: Policy, T: Tally<P::Node>, R: Recorder>(
     alloc: Global,
     problem: &P,
-    task: Task<P>,
+    task: Task<P::Node>,
     best: &Best,
     seat: &mut BestSeat,
     coord: Coord,
@@ -42,8 +47,11 @@ pub fn walk_spawning<P: Problem, Q: Policy, T: Tally<P::Node>, R: Recorder>(
     requires fits { T.fits tally.now hand.old.sum }
     requires spawns { Spawns coord }
     requires groups { (answers : List Bool) (body : List Note) → HasPolicy (search_tree P.Problem problem.now) Q.meaning policy.old answers body → HasGroups (SkeletonGroup (search_tree P.Problem problem.now) (skeleton_of coord)) body }
-    ensures step { OnOk result ((number : ℕ) (mail : MailSeatView (TaskValue P P.Node P.Kids) P) →
+    ensures step { OnOk result ((number : ℕ) (mail : MailSeatView (TaskValue P.Node) (Members P.Node)) →
         IsStep (searched (search_tree P.Problem problem.now) (T.join tally.now) (T.none tally.now) (T.of tally.now) (λ l. log_view (R.told l) (R.totals l) (R.number l)) coord 0) task.path.numbers
+        (station number seat.old outlet.old.pass mail outlet.old.tasks hand.old log.old) (station number seat.new outlet.new.pass mail outlet.new.tasks hand.new log.new)) }
+    ensures refused { IfErr result (λ fault. (number : ℕ) (mail : MailSeatView (TaskValue P.Node) (Members P.Node)) →
+        IsBrokenStep (searched (search_tree P.Problem problem.now) (T.join tally.now) (T.none tally.now) (T.of tally.now) (λ l. log_view (R.told l) (R.totals l) (R.number l)) coord 0) task.path.numbers fault
         (station number seat.old outlet.old.pass mail outlet.old.tasks hand.old log.old) (station number seat.new outlet.new.pass mail outlet.new.tasks hand.new log.new)) }
     ensures fits { T.fits tally.now hand.new.sum }
     ensures problem { outlet.new.problem ≡ outlet.old.problem }

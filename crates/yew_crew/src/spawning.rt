@@ -3,9 +3,10 @@ ghost use Rattle.std.specs.Prelude.{◌≡◌, ◌+◌, ◌++◌, true, false, �
 ghost use Rattle.std.specs.List.{AllByRecursion};
 ghost use Rattle.yew_laws.specs.Bag.{SameBag};
 ghost use Rattle.yew_laws.specs.SearchTree.{IsTask};
+ghost use Rattle.yew_laws.specs.Tasks.{IsAmong};
 ghost use Rattle.yew_pool.specs.Passes.{HasTaken};
 ghost use Rattle.yew_pool.specs.Takes.{IfTask, OnEmpty};
-ghost use Rattle.yew_tasks.specs.Tasks.{is_task};
+ghost use Rattle.yew_pool.specs.Tasks.{IsSoundFor};
 ghost use Rattle.yew_walk.specs.Outlets.{IsSentPart};
 ghost use Rattle.yew_crew.specs.OpenSeats.{IsExact};
 ghost use Rattle.yew_crew.specs.Outlets.{KeepsSpawning, IsLaterSpawning};
@@ -15,7 +16,6 @@ use std::marker::Model;
 use std::sync::Wait;
 use yew_laws::{Memory, Problem, Task};
 use yew_pool::{Pool, PoolPass, Refused, Take};
-use yew_tasks::Carried;
 use yew_walk::Outlet;
 
 /// The side of a worker that spawns: its pass at the pool, and its seat at the open tasks. Each task is counted as made
@@ -23,26 +23,29 @@ use yew_walk::Outlet;
 #[derive(Drop)]
 pub struct Spawning<'a, P: Problem> {
     pub problem: &'a P,
-    pub pool: &'a Pool<P>,
+    pub pool: &'a Pool<P::Node>,
     pub open: &'a Open,
-    pub pass: PoolPass<P>,
+    pub pass: PoolPass<P::Node>,
     pub tasks: OpenSeat,
 }
 
 impl<'a, P: Problem> Model for Spawning<'a, P> {
     ghost use Rattle.std.specs.Prelude.{◌≡◌, Some};
     ghost use Rattle.yew_crew.specs.Outlets.{SpawningView};
+    ghost use Rattle.yew_laws.specs.SearchTree.{search_tree};
+    ghost use Rattle.yew_laws.specs.Tasks.{members_of};
 
-    ghost Value = { SpawningView P P.Node P.Kids };
+    ghost Value = { SpawningView P P.Node };
 
     ghost view = { λ o. record { problem = o.problem.now; pass = o.pass; tasks = o.tasks } };
 
-    ghost invariant = { λ o. (o.pass.pool ≡ o.pool.now) × (o.tasks.tasks ≡ o.open.now) × (o.pass.problem ≡ Some o.problem.now) };
+    ghost invariant = { λ o. (o.pass.pool ≡ o.pool.now) × (o.tasks.tasks ≡ o.open.now) × (o.pass.members ≡ Some (members_of (search_tree P.Problem o.problem.now)))
+        × P.sound o.problem.now (P.root o.problem.now) };
 }
 
 impl<'a, P: Problem> Spawning<'a, P> {
     /// Takes a task from the pool.
-    pub fn take<R: Wait>(&mut self, rt: &R) -> Take<P>
+    pub fn take<R: Wait>(&mut self, rt: &R) -> Take<P::Node>
         ensures task { IfTask result (λ task. (self.new ≡ record self.old { pass = self.new.pass }) × HasTaken self.old.pass task self.new.pass × IsTask P.Problem self.old.problem task.path.numbers task.node) }
         ensures empty { OnEmpty result (self.new ≡ record self.old { pass = record self.old.pass { found_empty = self.new.pass.found_empty } }) }
     {
@@ -111,10 +114,10 @@ impl<'a, P: Problem> Outlet<P> for Spawning<'a, P> {
         false
     }
 
-    fn send(&mut self, tasks: Vec<Task<P>>) -> Result<(), Memory>
-        requires { AllByRecursion (is_task P.Problem self.old.problem) tasks.items }
+    fn send(&mut self, tasks: Vec<Task<P::Node>>) -> Result<(), Memory>
+        requires { AllByRecursion (λ task. IsTask P.Problem self.old.problem task.path.numbers task.node) tasks.items }
         ensures ok { OnOk result (SameBag self.new.pass.put (self.old.pass.put ++ tasks.items)) }
-        ensures err { OnErr result (IsSentPart (is_task P.Problem self.old.problem) self.old.pass.put tasks.items self.new.pass.put) }
+        ensures err { OnErr result (IsSentPart (λ task. IsTask P.Problem self.old.problem task.path.numbers task.node) self.old.pass.put tasks.items self.new.pass.put) }
         ensures answers { Unit {0} }
         ensures problem { self.new.problem ≡ self.old.problem }
         ensures kept { KeepsSpawning self.old self.new }
@@ -122,25 +125,22 @@ impl<'a, P: Problem> Outlet<P> for Spawning<'a, P> {
         ensures goes { OnOk result (Unit {0}) }
     {
         self.open.made(&mut self.tasks, tasks.len() as u64);
-        put_all(self.pool, &mut self.pass, self.problem, tasks)
+        put_all(self.pool, &mut self.pass, tasks)
     }
 }
 
 // Puts tasks into the pool, in order, until one is refused.
-fn put_all<P: Carried>(
-    pool: &Pool<P>,
-    pass: &mut PoolPass<P>,
-    problem: &P,
-    tasks: Vec<P::Task>,
+fn put_all<N: Drop>(
+    pool: &Pool<N>,
+    pass: &mut PoolPass<N>,
+    tasks: Vec<Task<N>>,
 ) -> Result<(), Memory>
     requires pool { pass.old.pool ≡ pool.now }
-    requires problem { pass.old.problem ≡ Some problem.now }
-    requires sound { AllByRecursion (P.carries problem.now) tasks.items }
+    requires sound { AllByRecursion (IsSoundFor IsAmong pass.old.members) tasks.items }
     ensures ok { OnOk result (SameBag pass.new.put (pass.old.put ++ tasks.items)) }
-    ensures err { OnErr result (IsSentPart (P.carries problem.now) pass.old.put tasks.items pass.new.put) }
+    ensures err { OnErr result (IsSentPart (IsSoundFor IsAmong pass.old.members) pass.old.put tasks.items pass.new.put) }
     ensures same { pass.new ≡ record pass.old { put = pass.new.put } }
 {
-    let _ = problem;
     let mut rest = tasks;
     rest.reverse();
     while let Some(task) = rest.pop() {

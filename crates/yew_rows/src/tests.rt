@@ -1,11 +1,16 @@
-ghost use Rattle.std.specs.Prelude.{◌≡◌, [], IfOk};
+ghost use Rattle.std.specs.Prelude.{◌≡◌, ◌≤◌, [], IfOk};
 ghost use Rattle.yew_laws.specs.SearchTree.{IsTask};
+ghost use Rattle.yew_crew.specs.Stations.{IsCoord};
 ghost use Rattle.yew_stack.specs.ToCome.{AllOpen};
 ghost use Rattle.yew_stack.specs.Turns.{GivesTask};
 
 use std::alloc::Global;
+use std::sync::Wait;
 use std::test::Fail;
+use std::thread::Threads;
 use yew_best::Best;
+use yew_crew::{Coord, search_crew};
+use yew_io::OpenGate;
 use yew_kinds::{Answer, ByDepth, Counted, Kind, NoTally};
 use yew_laws::{Memory, Path, Problem, Task};
 use yew_log::{Full, Recorder, audit_text};
@@ -17,7 +22,7 @@ use yew_walk::{Found, Keying, Outbox, Plain, SearchFault, empty_hand, search_pla
 fn pushed<P: Problem>(
     alloc: Global,
     problem: &P,
-    task: Task<P>,
+    task: Task<P::Node>,
     stack: &mut GenStack<P>,
 ) -> Result<(), Memory>
     requires root { P.sound problem.now (P.root problem.now) }
@@ -31,7 +36,7 @@ fn pushed<P: Problem>(
 }
 
 /// The task of the root.
-fn root_task<P: Problem>(alloc: Global, problem: &P) -> Result<Task<P>, Memory>
+fn root_task<P: Problem>(alloc: Global, problem: &P) -> Result<Task<P::Node>, Memory>
     requires { P.sound problem.now (P.root problem.now) }
     ensures { IfOk result (λ task. IsTask P.Problem problem.now task.path.numbers task.node) }
 {
@@ -61,7 +66,7 @@ fn split<P: Problem>(
     problem: &P,
     chunk: Chunk,
     stack: &mut GenStack<P>,
-    into: &mut Vec<Task<P>>,
+    into: &mut Vec<Task<P::Node>>,
 ) -> Result<(), Memory>
     requires root { P.sound problem.now (P.root problem.now) }
     requires levels_open { AllOpen P.Problem problem.now stack.old }
@@ -100,7 +105,7 @@ fn gaps(alloc: Global, node: &Semigroup) -> Result<Vec<u32>, Memory> {
 /// The task has this path and these gaps.
 fn is_task(
     alloc: Global,
-    task: &Task<Semigroups>,
+    task: &Task<<Semigroups as Problem>::Node>,
     path: &[u32],
     wanted: &[u32],
 ) -> Result<bool, Memory> {
@@ -225,6 +230,80 @@ fn semigroups_fill_a_log(rt: HostRuntime) -> Result<(), Fail> {
             assert!(rt; numbers <= 4194304 && numbers > 4194304 - 23);
         }
         _ => assert!(rt; false),
+    }
+    Ok(())
+}
+
+/// Whether a crew counts the semigroups of genus 0 to 10 (OEIS, A007323), with a log of each worker, and the numbers of
+/// entries that every schedule has.
+fn crew_counts<R: Threads + Wait + Sync>(
+    rt: &R,
+    alloc: Global,
+    coord: Coord,
+    workers: u32,
+) -> Result<bool, SearchFault>
+    requires workers { (1 ≤ workers) × (workers ≤ 64) }
+    requires coord { IsCoord coord }
+{
+    let problem = Semigroups::new(10);
+    let Found { answer, logs } = search_crew::<_, _, Full, _, _>(
+        rt,
+        alloc,
+        &problem,
+        Kind::Count,
+        &ByDepth { depths: 10 },
+        coord,
+        workers,
+        &OpenGate,
+    )?;
+    let right = match answer {
+        Answer::Count(sum) => {
+            sum.counts() == [1, 1, 2, 4, 7, 12, 23, 39, 67, 118, 204].as_slice()
+        }
+        _ => false,
+    };
+    let mut visited = 0u64;
+    let mut cut = 0u64;
+    let mut taken = 0u64;
+    let mut sent = 0u64;
+    for log in logs.iter() {
+        let totals = log.totals();
+        visited = visited.saturating_add(totals.visited);
+        cut = cut.saturating_add(totals.cut);
+        taken = taken.saturating_add(totals.taken);
+        sent = sent
+            .saturating_add(totals.spawned)
+            .saturating_add(totals.handed);
+    }
+    Ok(
+        right
+            && logs.len() == workers as usize
+            && visited == 478
+            && cut == 0
+            && taken == sent.saturating_add(1),
+    )
+}
+
+// Every coordination, with 1 to 8 workers, again and again.
+#[test]
+fn crews_count(rt: HostRuntime) -> Result<(), Fail> {
+    let alloc = rt.alloc();
+    let coords = [
+        Coord::Depth(0),
+        Coord::Depth(1),
+        Coord::Depth(3),
+        Coord::Budget(1),
+        Coord::Budget(7),
+        Coord::Steal(Chunk::One),
+        Coord::Steal(Chunk::All),
+    ];
+    for round in 0..10 {
+        for workers in 1..9 {
+            for coord in coords {
+                assert!(rt; crew_counts(&rt, alloc, coord, workers)?);
+            }
+        }
+        assert!(rt; round < 10);
     }
     Ok(())
 }

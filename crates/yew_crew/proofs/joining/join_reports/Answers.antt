@@ -5,7 +5,7 @@ use Rattle.yew_crew.proofs.Joins.{removed-first, all_behind, parts-joined}
 use Rattle.yew_crew.proofs.joining.join_reports.Goals as goal
 
 pub take_apart-requires-clause-seated : goal.take_apart-requires-clause-seated
-take_apart-requires-clause-seated g c κs within = (all_behind _ _ _ _ (removed-first c.args.reports.items c.remove-first.result c.remove-first.new.self.items c.requires.some c.remove-first.ensures.value c.remove-first.ensures.items) c.requires.seated).1
+take_apart-requires-clause-seated g c = (all_behind _ _ _ _ (removed-first c.args.reports.items c.remove-first.result c.remove-first.new.self.items c.requires.some c.remove-first.ensures.value c.remove-first.ensures.items) c.requires.seated).1
 
 pub returns-clause-parts : goal.returns-clause-parts
 returns-clause-parts g c = parts-joined _ _ _ _ _ (removed-first c.args.reports.items c.remove-first.result c.remove-first.new.self.items c.requires.some c.remove-first.ensures.value c.remove-first.ensures.items) c.in_ok-parts.ensures c.in_ok-take_apart.ensures.ok

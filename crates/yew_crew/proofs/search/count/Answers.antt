@@ -1,0 +1,8 @@
+use Rattle.yew_walk.specs.Hands.{incumbent_of}
+use Rattle.yew_crew.proofs.KindAnswers.{path-with, logs-only}
+use Rattle.yew_crew.proofs.search.count.Goals as goal
+
+pub returns-in-Ok-clause-logs : goal.returns-in-Ok-clause-logs
+returns-in-Ok-clause-logs g c =
+    let named = path-with (incumbent_of c.in-Ok.field-0.hand).path in
+    logs-only _ 0 _ _ _ _ (c.in-Ok.ensures.found.has_logs named.0 named.1)
