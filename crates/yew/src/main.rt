@@ -9,8 +9,8 @@ use file_shelf::FileShelf;
 use standard_sinks::StandardSink;
 use std::process::ExitCode;
 use std::{env, io};
-use yew_app::run_plain;
-use yew_io::write_whole;
+use yew_app::run;
+use yew_io::{OpenGate, write_whole};
 
 /// The words after the program's name.
 fn words_of(rt: &HostRuntime) -> io::Result<Vec<String>> {
@@ -36,6 +36,14 @@ fn main(rt: HostRuntime) -> ExitCode {
         }
     };
     let mut shelf = FileShelf::new(&rt);
-    let status = run_plain(rt.alloc(), &words, &mut shelf, &mut out, &mut err);
+    let status = run(
+        &rt,
+        rt.alloc(),
+        &words,
+        &mut shelf,
+        &mut out,
+        &mut err,
+        &OpenGate,
+    );
     ExitCode::from(status)
 }

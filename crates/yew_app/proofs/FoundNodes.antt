@@ -1,4 +1,4 @@
--- The node at the path that a search answers is the solution.
+-- The node at the path that a search answers is a solution.
 use Rattle.std.proofs.Common.{◌≡◌, ◌≢◌, ◌≤◌, ℕ, List, Option, Some, None, Result, Ok, Err, refl, ap, sym, subst, ◌∙◌}
 use Rattle.std.specs.Prelude.{IsNone, IfSome, IfNone, IfOk, IsSomeAnd, All, Contains, option_and_then}
 use Rattle.std.specs.Option.{option_map}
@@ -11,9 +11,7 @@ use Rattle.yew_laws.specs.PathValue.{PathValue}
 use Rattle.yew_laws.specs.SearchTree.{SearchTree, preorder, at_path, worth_at}
 use Rattle.yew_laws.specs.Tree.{Member, IsRanked}
 use Rattle.yew_laws.proofs.Trees.{tree-contains, tree-sound}
-use Rattle.yew_walk.specs.Answers.{IsBest, IsReached}
-use Rattle.yew_walk.specs.Hands.{numbers_of}
-use Rattle.yew_walk.specs.Kinds.{IsAnswer}
+use Rattle.yew_crew.specs.CrewSearch.{IsGreatest, IsMeeting, IsCrewAnswer}
 use Rattle.yew_walk.proofs.Bests.{member-at_path, rebuilt-IsSome}
 use Rattle.yew_app.specs.declared.solution.Solution.TheVariants as solutions
 use Rattle.yew_app.specs.Solutions.{IsBestNode, IsReachedNode, IsSolution}
@@ -32,7 +30,7 @@ some-and : (P : ℕ → Type 0) (found : Option ℕ) (w : ℕ) → found ≡ Som
 some-and P found w e p = subst (λ (o : Option ℕ). IsSomeAnd o P) (sym e) p
 
 -- two facts of what was answered give a third
-both-ok : {X E : Type 0} (answer : Result X E) (P Q R : X → Type 0) → ((x : X) → P x → Q x → R x) → IfOk answer P → IfOk answer Q → IfOk answer R
+pub both-ok : {X E : Type 0} (answer : Result X E) (P Q R : X → Type 0) → ((x : X) → P x → Q x → R x) → IfOk answer P → IfOk answer Q → IfOk answer R
 both-ok (Ok x) P Q R f p q = f x p q
 both-ok (Err e) P Q R f p q = tt
 
@@ -58,57 +56,55 @@ module _ {N : Type 0} (t : SearchTree N) {sound : N → Type 0} (ranked : IsRank
       (All-from_recursion (λ (m : Member N). sound m.node) (preorder t) (tree-sound ranked t.root root)) (tree-contains ranked path t.root node root at)
 
   -- a node of the greatest worth
-  best-node : (worth : ℕ) (path : Option PathValue) (node : Option N) → IsBest t worth path → node ≡ option_and_then (λ numbers. at_path t numbers) (numbers_of path) → IsBestNode t sound worth node
+  best-node : (worth : ℕ) (path : Option PathValue) (node : Option N) → IsGreatest t worth path → node ≡ option_and_then (λ (p : PathValue). at_path t p.numbers) path → IsBestNode t sound worth node
   best-node worth path node best is = record {
     worth_is = best.worth_is;
-    first = ap (option_and_then (λ numbers. at_path t numbers)) (sym best.path_is) ∙ sym is;
     absent = (absent path best is, none path best is);
     has_worth = has path best is;
   }
     where
-      at : (p : PathValue) → IsBest t worth (Some p) → HasWorth t.worth (λ w. worth ≡ w) (at_path t p.numbers)
+      at : (p : PathValue) → IsGreatest t worth (Some p) → HasWorth t.worth (λ w. worth ≡ w) (at_path t p.numbers)
       at p b = has-worth t.worth (λ w. worth ≡ w) (at_path t p.numbers) (some-and (λ w. worth ≡ w) (worth_at t p.numbers) worth b.has_worth refl)
 
-      absent : (path : Option PathValue) → IsBest t worth path → node ≡ option_and_then (λ numbers. at_path t numbers) (numbers_of path) → IsNone node → worth ≡ 0
+      absent : (path : Option PathValue) → IsGreatest t worth path → node ≡ option_and_then (λ (p : PathValue). at_path t p.numbers) path → IsNone node → worth ≡ 0
       absent None b e n = b.absent.0 refl
       absent (Some p) b e n = let h = at p b in let s : node ≡ Some h.node = e ∙ h.is in absurd (cc)
 
-      none : (path : Option PathValue) → IsBest t worth path → node ≡ option_and_then (λ numbers. at_path t numbers) (numbers_of path) → worth ≡ 0 → IsNone node
+      none : (path : Option PathValue) → IsGreatest t worth path → node ≡ option_and_then (λ (p : PathValue). at_path t p.numbers) path → worth ≡ 0 → IsNone node
       none None b e z = subst IsNone (sym e) refl
       none (Some p) b e z = let never = b.absent.1 z in absurd (cc)
 
-      has : (path : Option PathValue) → IsBest t worth path → node ≡ option_and_then (λ numbers. at_path t numbers) (numbers_of path) → IfSome node (λ n. sound n × (worth ≡ t.worth n))
+      has : (path : Option PathValue) → IsGreatest t worth path → node ≡ option_and_then (λ (p : PathValue). at_path t p.numbers) path → IfSome node (λ n. sound n × (worth ≡ t.worth n))
       has None b e = subst (λ (o : Option N). IfSome o (λ n. sound n × (worth ≡ t.worth n))) (sym e) tt
       has (Some p) b e = let h = at p b in subst (λ (o : Option N). IfSome o (λ n. sound n × (worth ≡ t.worth n))) (sym (e ∙ h.is)) (node-sound p.numbers h.node h.is, h.has)
 
   -- a node that meets a target
-  reached-node : (target : ℕ) (path : Option PathValue) (node : Option N) → IsReached t target path → node ≡ option_and_then (λ numbers. at_path t numbers) (numbers_of path) → IsReachedNode t sound target node
+  reached-node : (target : ℕ) (path : Option PathValue) (node : Option N) → IsMeeting t target path → node ≡ option_and_then (λ (p : PathValue). at_path t p.numbers) path → IsReachedNode t sound target node
   reached-node target path node reached is = record {
-    first = ap (option_and_then (λ numbers. at_path t numbers)) (sym reached.path_is) ∙ sym is;
     absent = absent path reached is;
     meets = has path reached is;
   }
     where
-      at : (p : PathValue) → IsReached t target (Some p) → HasWorth t.worth (λ w. target ≤ w) (at_path t p.numbers)
+      at : (p : PathValue) → IsMeeting t target (Some p) → HasWorth t.worth (λ w. target ≤ w) (at_path t p.numbers)
       at p r = has-worth t.worth (λ w. target ≤ w) (at_path t p.numbers) r.meets
 
-      absent : (path : Option PathValue) → IsReached t target path → node ≡ option_and_then (λ numbers. at_path t numbers) (numbers_of path) → IsNone node → ¬ Reach t target
+      absent : (path : Option PathValue) → IsMeeting t target path → node ≡ option_and_then (λ (p : PathValue). at_path t p.numbers) path → IsNone node → ¬ Reach t target
       absent None r e n = λ reaches. let never = r.exists.1 reaches in absurd (cc)
       absent (Some p) r e n = let h = at p r in let s : node ≡ Some h.node = e ∙ h.is in absurd (cc)
 
-      has : (path : Option PathValue) → IsReached t target path → node ≡ option_and_then (λ numbers. at_path t numbers) (numbers_of path) → IfSome node (λ n. sound n × (target ≤ t.worth n))
+      has : (path : Option PathValue) → IsMeeting t target path → node ≡ option_and_then (λ (p : PathValue). at_path t p.numbers) path → IfSome node (λ n. sound n × (target ≤ t.worth n))
       has None r e = subst (λ (o : Option N). IfSome o (λ n. sound n × (target ≤ t.worth n))) (sym e) tt
       has (Some p) r e = let h = at p r in subst (λ (o : Option N). IfSome o (λ n. sound n × (target ≤ t.worth n))) (sym (e ∙ h.is)) (node-sound p.numbers h.node h.is, h.has)
 
   -- what a search answered, with the node in the place of its path
-  pub solution-best : {S : Type 0} (fold : S) (kind : Kind) (worth : ℕ) (path : Option PathValue) (found : Option N) → found ≡ option_and_then (λ numbers. at_path t numbers) (numbers_of path)
-      → IsAnswer t fold kind (answers.Best worth path) → IsSolution t sound fold kind (solutions.Best worth found)
+  pub solution-best : {S : Type 0} (fold : S) (kind : Kind) (worth : ℕ) (path : Option PathValue) (found : Option N) → found ≡ option_and_then (λ (p : PathValue). at_path t p.numbers) path
+      → IsCrewAnswer t fold kind (answers.Best worth path) → IsSolution t sound fold kind (solutions.Best worth found)
   solution-best fold kinds.Count worth path found found_is is = absurd is
   solution-best fold kinds.Best worth path found found_is is = best-node worth path found is found_is
   solution-best fold (kinds.Reach target) worth path found found_is is = absurd is
 
-  pub solution-reach : {S : Type 0} (fold : S) (kind : Kind) (path : Option PathValue) (found : Option N) → found ≡ option_and_then (λ numbers. at_path t numbers) (numbers_of path)
-      → IsAnswer t fold kind (answers.Reach path) → IsSolution t sound fold kind (solutions.Reach found)
+  pub solution-reach : {S : Type 0} (fold : S) (kind : Kind) (path : Option PathValue) (found : Option N) → found ≡ option_and_then (λ (p : PathValue). at_path t p.numbers) path
+      → IsCrewAnswer t fold kind (answers.Reach path) → IsSolution t sound fold kind (solutions.Reach found)
   solution-reach fold kinds.Count path found found_is is = absurd is
   solution-reach fold kinds.Best path found found_is is = absurd is
   solution-reach fold (kinds.Reach target) path found found_is is = reached-node target path found is found_is

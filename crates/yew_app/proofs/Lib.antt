@@ -1,4 +1,5 @@
-pub mod AnsweredTexts
+pub mod Alone
+pub mod Askable
 pub mod Causes
 pub mod FileKinds
 pub mod FileReasons
@@ -7,10 +8,12 @@ pub mod FullAudits
 pub mod MadeFiles
 pub mod Named
 pub mod OneWays
+pub mod OneWorkers
 pub mod PlainAudits
-pub mod PlainTexts
+pub mod PlainLogs
 pub mod Plains
 pub mod ReportNumbers
+pub mod SearchTexts
 pub mod SearchedTrees
 pub mod Serving
 pub mod TourWorths

@@ -22,7 +22,7 @@ use Rattle.yew_log.specs.Items.{in_turn}
 use Rattle.yew_log.specs.Notes.{Note, taken, visited, cut, spawned, handed, ended, Judgement, path_of, visits, cuts, values, maximum, judgement_in, taken_paths, sent_paths, visited_paths, cut_paths}
 use Rattle.yew_log.specs.Places.{AtEach}
 use Rattle.yew_log.specs.SeqLog.{visited_worth, visit_notes, seq_log}
-use Rattle.yew_log.specs.WholeSearch.{AreLogs, IsBestVisit, IsFirstBest, IsTail, IsFirstTail, tail_text, joined}
+use Rattle.yew_log.specs.WholeSearch.{AreLogs, IsBestVisit, IsFirstBest, joined}
 use Rattle.yew_log.proofs.Growth.{worths-append}
 use Rattle.yew_log.proofs.Places.{AtEach-weaker}
 use Rattle.yew_log.proofs.SeqLaws.{Exact, Part, visit-part}
@@ -143,7 +143,7 @@ module _ {N : Type 0} (t : SearchTree N) where
   root-visited (suc levels) = Contains-head [] (visited_paths (in_turn visited_worth (λ p c h. if nat_le (t.bound c) (limit 0 h) then cut p (t.bound c) h ∷ [] else visit_notes t 0 levels p c h) [] 0 (t.children t.root) (max 0 (t.worth t.root)) ++ ended [] ∷ []))
 
   -- the node at the path of a first visit of the greatest worth
-  abbrev FirstBest : Option N → Type 0
+  abbrev pub FirstBest : Option N → Type 0
   FirstBest found = IfSome found (IsFirstBest t (seq_log t 0))
 
   node-first : (start best : Incumbent) (f : IsFirstOf start (visits (seq_log t 0)) best) → f.visit.value ≡ maximum (values (visits (seq_log t 0))) → (found : Option N) → at_path t f.visit.path ≡ found → FirstBest found
@@ -170,7 +170,7 @@ module _ {N : Type 0} (t : SearchTree N) where
 
   module _ {sound : N → Type 0} (ranked : IsRanked sound t.children t.rank) (bounded : IsBounded sound t.children t.worth t.bound) (root : sound t.root) where
     -- the first best node stands at the first visit of the greatest worth
-    first_node-first : FirstBest (first_node t)
+    pub first_node-first : FirstBest (first_node t)
     first_node-first = by (best_after-cases (record { worth = 0; path = None }) (visits (seq_log t 0)))
       where
         by : (best_after Plain (record { worth = 0; path = None }) (visits (seq_log t 0)) ≡ record { worth = 0; path = None }) ⊎ IsFirstOf (record { worth = 0; path = None }) (visits (seq_log t 0)) (best_after Plain (record { worth = 0; path = None }) (visits (seq_log t 0))) → FirstBest (first_node t)
@@ -212,7 +212,7 @@ module _ {N : Type 0} (t : SearchTree N) where
         }
 
     -- the one sequential log is the logs of a whole search
-    seq_log-are_logs : AreLogs t 0 sequential 1 (seq_log t 0 ∷ []) (first_node t)
+    pub seq_log-are_logs : AreLogs t 0 sequential 1 (seq_log t 0 ∷ []) (first_node t)
     seq_log-are_logs =
         let is : seq_log t 0 ≡ joined (seq_log t 0 ∷ []) = sym (append-nil (seq_log t 0)) in
         record {
@@ -223,10 +223,6 @@ module _ {N : Type 0} (t : SearchTree N) where
           attained = subst (λ ns. Attained t 0 (visits ns) (cuts ns)) is seq_log-attained;
           best = subst (λ ns. IfSome (first_node t) (IsBestVisit t ns)) is (first-visit (first_node t) first_node-first);
         }
-
-    -- so its report and its audit are those of a search, and of the first of all
-    pub plain-tail : (report audit : Bool) → IsTail t 0 sequential 1 report audit (first_node t) (tail_text report audit 1 (seq_log t 0 ∷ [])) × IsFirstTail t 0 report audit (first_node t) (tail_text report audit 1 (seq_log t 0 ∷ []))
-    plain-tail report audit = (record { logs = seq_log t 0 ∷ []; are_logs = seq_log-are_logs; text_is = refl }, record { first = first_node-first; text_is = refl })
 
 -- what the paths of these entries weigh together
 abbrev total : (List ℕ → ℕ) → List Note → ℕ

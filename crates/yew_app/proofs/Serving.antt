@@ -13,16 +13,22 @@ use Rattle.yew_words.specs.declared.plan.Job.{Job}
 use Rattle.yew_words.specs.declared.plan.Job.TheVariants as jobs
 use Rattle.yew_words.specs.declared.plan.Made.{Made}
 use Rattle.yew_words.specs.Word.{Word}
+use Rattle.yew_words.specs.declared.plan.Skeleton.{Skeleton}
+use Rattle.yew_words.specs.declared.plan.Skeleton.TheVariants as skeletons
 use Rattle.yew_words.specs.Plans.{Planned, PlanOf}
 use Rattle.yew_app.specs.Jobs.{of_job}
 use Rattle.yew_app.specs.MadeTexts.{IsMadeText}
-use Rattle.yew_app.specs.Meanings.{Meaning, known_files, IsOneWay, searched, AnswersFiles, MeetsFiles, IsFineFiles, StopsFiles}
+use Rattle.yew_app.specs.Meanings.{Meaning, known_files, IsOneWay, searched, AnswersFiles, MeetsFiles, IsFineFiles, FillsFiles, StopsFiles}
 use Rattle.yew_app.specs.Refusals.{Reason, BadUsage, CannotRead, NotInGrammar, TooLong, TooLarge, FullAudit, TaskPastLimit, CannotWrite, NoMemory, IsFullOrMemory}
-use Rattle.yew_app.specs.Runs.{IsPlain, AnswersJob, RefusesJob, MeetsJob, IsFineJob, StopsJob, RefusesFiles, FillsAudit, IsFine, IsCause}
+use Rattle.yew_app.specs.Asks.{table_of, IsSequential}
+use Rattle.yew_app.specs.Texts.{HasFullAudit, HasRoom}
+use Rattle.yew_app.specs.declared.asked.Asked.{Asked}
+use Rattle.yew_app.specs.Runs.{asked_of, IsPlanOf, AnswersJob, RefusesJob, MeetsJob, IsFineJob, StopsJob, RefusesFiles, FillsAudit, IsFine, IsCause}
+use Rattle.yew_app.proofs.Alone.{one-worker}
 
 -- a log that was full is that of a sequential log past the limits
-full-meets : {N : Type 0} (t : SearchTree N) (entries numbers : ℕ) → IsAuditFull t 0 sequential 1 entries numbers → MeetsLimits (seq_log t 0)
-full-meets t entries numbers f =
+full-meets : {N : Type 0} (t : SearchTree N) (workers entries numbers : ℕ) → IsAuditFull t 0 sequential workers entries numbers → MeetsLimits (seq_log t 0)
+full-meets t workers entries numbers f =
     let next = f.sequential_next refl in
     let rest = next.0 in
     let whole = f.full in
@@ -43,55 +49,67 @@ full-meets t entries numbers f =
           | inr more ↦ inr (omega (arith, more, k, b, n, m))
         ]
 
+-- an audit that has room for a search is not full
+no-room : {N : Type 0} (t : SearchTree N) (skeleton : Skeleton) (asked : Asked) (worker entries numbers : ℕ) → asked.skeleton ≡ skeleton → HasRoom t skeleton → HasFullAudit t asked worker entries numbers → ⊥
+no-room t skeletons.Sequential asked worker entries numbers same room full =
+    room (full-meets t asked.workers entries numbers (subst (λ (s : Skeleton). IsAuditFull t 0 (table_of s) asked.workers entries numbers) same full.is_full))
+no-room t (skeletons.Depth depth) asked worker entries numbers same room full = room full.large
+no-room t (skeletons.Budget budget) asked worker entries numbers same room full = room full.large
+no-room t (skeletons.Steal chunk) asked worker entries numbers same room full = room full.large
+no-room t (skeletons.Ordered depth) asked worker entries numbers same room full = room full.large
+
 -- the shelf did not fail
 abbrev pub NoFault : Reason → Type 0
 NoFault reason = (name : Word) → reason ≡ CannotRead name → ⊥
 
-module _ {X N : Type 0} (m : Meaning X N) (one : IsOneWay m) (audit : Bool) (told : List File) where
+module _ {X N : Type 0} (m : Meaning X N) (one : IsOneWay m) (asked : Asked) (told : List File) where
   -- what the instance of the files says, it says of each
   same-meets : (a b : X) → m.Reads told a → m.Reads told b → MeetsLimits (seq_log (searched m a) 0) → MeetsLimits (seq_log (searched m b) 0)
   same-meets a b p q = subst (λ (x : X). MeetsLimits (seq_log (searched m x) 0)) (one.one_instance told a b p q)
 
   -- files that are refused give no text
-  answered-refused : (report : Bool) (text : List ℕ) (reason : Reason) → AnswersFiles m report audit told text → m.Refuses told reason → ⊥
-  answered-refused report text reason answers refused = one.not_both told answers.0 reason answers.1 refused
+  answered-refused : (text : List ℕ) (reason : Reason) → AnswersFiles m asked told text → m.Refuses told reason → ⊥
+  answered-refused text reason answers refused = one.not_both told answers.0 reason answers.1 refused
 
   -- and no search whose log is past the limits
-  answered-meets : (report : Bool) (text : List ℕ) → AnswersFiles m report audit told text → IsTrue audit → MeetsFiles m told → ⊥
-  answered-meets report text answers asked meets = answers.2.plain.fits asked (same-meets meets.0 answers.0 meets.1 answers.1 meets.2)
+  answered-meets : (text : List ℕ) → IsSequential asked.skeleton → AnswersFiles m asked told text → IsTrue asked.audit → MeetsFiles m told → ⊥
+  answered-meets text preorder answers audit meets = (answers.2.found.in_preorder preorder).fits audit (same-meets meets.0 answers.0 meets.1 answers.1 meets.2)
 
   -- files that are refused stop a run for their reason
-  stopped-refused : (is reason : Reason) → NoFault is → StopsFiles m audit (Some told) is → m.Refuses told reason → (is ≡ reason) ⊎ (is ≡ NoMemory)
+  stopped-refused : (is reason : Reason) → NoFault is → StopsFiles m asked (Some told) is → m.Refuses told reason → (is ≡ reason) ⊎ (is ≡ NoMemory)
   stopped-refused (CannotRead name) reason none stops refused = absurd (none name refl)
   stopped-refused (NotInGrammar name at kind) reason none stops refused = inl (one.one_reason told (NotInGrammar name at kind) reason stops.1 refused)
   stopped-refused (TooLong name) reason none stops refused = inl (one.one_reason told (TooLong name) reason stops.1 refused)
   stopped-refused (TooLarge name number limit) reason none stops refused = inl (one.one_reason told (TooLarge name number limit) reason stops.1 refused)
-  stopped-refused (FullAudit worker entries numbers) reason none stops refused = absurd (one.not_both told stops.2.0 reason stops.2.1 refused)
+  stopped-refused (FullAudit worker entries numbers) reason none stops refused = absurd (one.not_both told stops.3.0 reason stops.3.1 refused)
   stopped-refused NoMemory reason none stops refused = inr refl
   stopped-refused (BadUsage place kind) reason none stops refused = absurd stops
   stopped-refused CannotWrite reason none stops refused = absurd stops
   stopped-refused (TaskPastLimit number) reason none stops refused = absurd stops
 
   -- a search whose log is past the limits stops a run where its audit is full
-  stopped-meets : (is : Reason) → NoFault is → StopsFiles m audit (Some told) is → MeetsFiles m told → IsFullOrMemory is
-  stopped-meets (CannotRead name) none stops meets = absurd (none name refl)
-  stopped-meets (NotInGrammar name at kind) none stops meets = one.not_both told meets.0 (NotInGrammar name at kind) meets.1 stops.1
-  stopped-meets (TooLong name) none stops meets = one.not_both told meets.0 (TooLong name) meets.1 stops.1
-  stopped-meets (TooLarge name number limit) none stops meets = one.not_both told meets.0 (TooLarge name number limit) meets.1 stops.1
-  stopped-meets (FullAudit worker entries numbers) none stops meets = tt
-  stopped-meets NoMemory none stops meets = tt
-  stopped-meets (BadUsage place kind) none stops meets = absurd stops
-  stopped-meets CannotWrite none stops meets = absurd stops
-  stopped-meets (TaskPastLimit number) none stops meets = absurd stops
+  stopped-meets : (is : Reason) → NoFault is → asked.workers ≡ 1 → StopsFiles m asked (Some told) is → MeetsFiles m told → IsFullOrMemory is
+  stopped-meets (CannotRead name) none single stops meets = absurd (none name refl)
+  stopped-meets (NotInGrammar name at kind) none single stops meets = one.not_both told meets.0 (NotInGrammar name at kind) meets.1 stops.1
+  stopped-meets (TooLong name) none single stops meets = one.not_both told meets.0 (TooLong name) meets.1 stops.1
+  stopped-meets (TooLarge name number limit) none single stops meets = one.not_both told meets.0 (TooLarge name number limit) meets.1 stops.1
+  stopped-meets (FullAudit worker entries numbers) none single stops meets = let least = stops.1 in let most = stops.2 in omega (arith, least, most, single)
+  stopped-meets NoMemory none single stops meets = tt
+  stopped-meets (BadUsage place kind) none single stops meets = absurd stops
+  stopped-meets CannotWrite none single stops meets = absurd stops
+  stopped-meets (TaskPastLimit number) none single stops meets = absurd stops
 
   -- and where nothing is wrong, want of memory alone stops it
-  stopped-fine : (is : Reason) → NoFault is → StopsFiles m audit (Some told) is → IsFineFiles m audit told → is ≡ NoMemory
+  stopped-fine : (is : Reason) → NoFault is → StopsFiles m asked (Some told) is → IsFineFiles m asked told → is ≡ NoMemory
   stopped-fine (CannotRead name) none stops fine = absurd (none name refl)
   stopped-fine (NotInGrammar name at kind) none stops fine = absurd (one.not_both told fine.0 (NotInGrammar name at kind) fine.1 stops.1)
   stopped-fine (TooLong name) none stops fine = absurd (one.not_both told fine.0 (TooLong name) fine.1 stops.1)
   stopped-fine (TooLarge name number limit) none stops fine = absurd (one.not_both told fine.0 (TooLarge name number limit) fine.1 stops.1)
   stopped-fine (FullAudit worker entries numbers) none stops fine =
-      absurd (fine.2 stops.0 (same-meets stops.2.0 fine.0 stops.2.1 fine.1 (full-meets (searched m stops.2.0) entries numbers stops.2.2)))
+      let filled : FillsFiles m asked worker entries numbers told = stops.3 in
+      let same = one.one_instance told filled.0 fine.0 filled.1 fine.1 in
+      absurd (no-room (searched m fine.0) asked.skeleton asked worker entries numbers refl (fine.2 stops.0)
+      (subst (λ (x : X). HasFullAudit (searched m x) asked worker entries numbers) same filled.2))
   stopped-fine NoMemory none stops fine = refl
   stopped-fine (BadUsage place kind) none stops fine = absurd stops
   stopped-fine CannotWrite none stops fine = absurd stops
@@ -116,25 +134,25 @@ meet-job jobs.Subgraph (name ∷ second ∷ third ∷ names) plan A B C K L M ma
 meet-job jobs.Semigroups (name ∷ names) plan A B C K L M made by a b c = absurd a
 meet-job (jobs.Make kind) (name ∷ names) plan A B C K L M made by a b c = absurd a
 
-module _ (words : List Word) (plan : Planned) (plain : IsPlain words plan) where
+module _ (does : Skeleton → Type 0) (words : List Word) (plan : Planned) (is_plan : IsPlanOf does words plan) where
   -- why the plan gives no text is a cause
-  pub cause-of : (files : Option (List File)) (reason : Reason) → StopsJob plan.job plan.files plan (known_files plan.files files) reason → IsCause words files reason
-  cause-of files (CannotRead name) why = record { plan = plan; plain = plain; why = why }
-  cause-of files (NotInGrammar name at kind) why = record { plan = plan; plain = plain; why = why }
-  cause-of files (TooLong name) why = record { plan = plan; plain = plain; why = why }
-  cause-of files (TooLarge name number limit) why = record { plan = plan; plain = plain; why = why }
-  cause-of files (FullAudit worker entries numbers) why = record { plan = plan; plain = plain; why = why }
-  cause-of files (TaskPastLimit number) why = record { plan = plan; plain = plain; why = why }
+  pub cause-of : (files : Option (List File)) (reason : Reason) → StopsJob plan.job plan.files plan (known_files plan.files files) reason → IsCause does words files reason
+  cause-of files (CannotRead name) why = record { plan = plan; is_plan = is_plan; why = why }
+  cause-of files (NotInGrammar name at kind) why = record { plan = plan; is_plan = is_plan; why = why }
+  cause-of files (TooLong name) why = record { plan = plan; is_plan = is_plan; why = why }
+  cause-of files (TooLarge name number limit) why = record { plan = plan; is_plan = is_plan; why = why }
+  cause-of files (FullAudit worker entries numbers) why = record { plan = plan; is_plan = is_plan; why = why }
+  cause-of files (TaskPastLimit number) why = record { plan = plan; is_plan = is_plan; why = why }
   cause-of files NoMemory why = tt
   cause-of files (BadUsage place kind) why = never why
     where
-      never : StopsJob plan.job plan.files plan (known_files plan.files files) (BadUsage place kind) → IsCause words files (BadUsage place kind)
+      never : StopsJob plan.job plan.files plan (known_files plan.files files) (BadUsage place kind) → IsCause does words files (BadUsage place kind)
       never why = meet-job plan.job plan.files plan (λ k. BadUsage place kind ≡ NoMemory) (λ k. BadUsage place kind ≡ NoMemory) (λ k. BadUsage place kind ≡ NoMemory)
-          (λ X N m. StopsFiles m plan.audit (known_files plan.files files) (BadUsage place kind)) (λ X N m. StopsFiles m plan.audit (known_files plan.files files) (BadUsage place kind)) (λ X N m. StopsFiles m plan.audit (known_files plan.files files) (BadUsage place kind))
+          (λ X N m. StopsFiles m (asked_of plan) (known_files plan.files files) (BadUsage place kind)) (λ X N m. StopsFiles m (asked_of plan) (known_files plan.files files) (BadUsage place kind)) (λ X N m. StopsFiles m (asked_of plan) (known_files plan.files files) (BadUsage place kind))
           (λ k a b c. absurd (cc)) (λ X N m a b c. absurd a) why why why
   cause-of files CannotWrite why =
       meet-job plan.job plan.files plan (λ k. CannotWrite ≡ NoMemory) (λ k. CannotWrite ≡ NoMemory) (λ k. CannotWrite ≡ NoMemory)
-      (λ X N m. StopsFiles m plan.audit (known_files plan.files files) CannotWrite) (λ X N m. StopsFiles m plan.audit (known_files plan.files files) CannotWrite) (λ X N m. StopsFiles m plan.audit (known_files plan.files files) CannotWrite)
+      (λ X N m. StopsFiles m (asked_of plan) (known_files plan.files files) CannotWrite) (λ X N m. StopsFiles m (asked_of plan) (known_files plan.files files) CannotWrite) (λ X N m. StopsFiles m (asked_of plan) (known_files plan.files files) CannotWrite)
       (λ k a b c. absurd (cc)) (λ X N m a b c. absurd a) why why why
 
   module _ (one : (other : Planned) → PlanOf words other → plan ≡ other) (ways : of_job plan.job plan.files plan (λ kind. Unit {0}) (λ X N m. IsOneWay m)) (files : Option (List File)) where
@@ -142,59 +160,59 @@ module _ (words : List Word) (plan : Planned) (plain : IsPlain words plan) where
     known = known_files plan.files files
 
     -- files that are refused, an audit that is full, and files that are fine are the plan's
-    refused-job : (reason : Reason) → RefusesFiles words files reason → IsSomeAnd known (λ told. RefusesJob plan.job plan.files plan told reason)
+    refused-job : (reason : Reason) → RefusesFiles does words files reason → IsSomeAnd known (λ told. RefusesJob plan.job plan.files plan told reason)
     refused-job reason refused =
-        subst (λ (p : Planned). IsSomeAnd (known_files p.files files) (λ told. RefusesJob p.job p.files p told reason)) (sym (one refused.plan refused.plain.is_plan)) refused.why
+        subst (λ (p : Planned). IsSomeAnd (known_files p.files files) (λ told. RefusesJob p.job p.files p told reason)) (sym (one refused.plan refused.is_plan.is_plan)) refused.why
 
-    fills-job : FillsAudit words files → IsTrue plan.audit × IsSomeAnd known (MeetsJob plan.job plan.files plan)
+    fills-job : FillsAudit does words files → IsTrue plan.audit × IsSequential plan.skeleton × IsSomeAnd known (MeetsJob plan.job plan.files plan)
     fills-job fills =
-        subst (λ (p : Planned). IsTrue p.audit × IsSomeAnd (known_files p.files files) (MeetsJob p.job p.files p)) (sym (one fills.plan fills.plain.is_plan)) (fills.asked, fills.meets)
+        subst (λ (p : Planned). IsTrue p.audit × IsSequential p.skeleton × IsSomeAnd (known_files p.files files) (MeetsJob p.job p.files p)) (sym (one fills.plan fills.is_plan.is_plan)) (fills.asked, fills.sequential, fills.meets)
 
-    fine-job : IsFine words files → IsSomeAnd known (IsFineJob plan.job plan.files plan)
+    fine-job : IsFine does words files → IsSomeAnd known (IsFineJob plan.job plan.files plan)
     fine-job fine =
-        subst (λ (p : Planned). IsSomeAnd (known_files p.files files) (IsFineJob p.job p.files p)) (sym (one fine.plan fine.plain.is_plan)) fine.fine
+        subst (λ (p : Planned). IsSomeAnd (known_files p.files files) (IsFineJob p.job p.files p)) (sym (one fine.plan fine.is_plan.is_plan)) fine.fine
 
     module _ (text : List ℕ) (answers : IfSome known (λ told. AnswersJob plan.job plan.files plan told text)) where
       abbrev Made_text : Made → Type 0
       Made_text kind = IsMadeText kind plan.solve plan.seed plan.size text
 
-      pub answers-not_refused : (reason : Reason) → RefusesFiles words files reason → ⊥
+      pub answers-not_refused : (reason : Reason) → RefusesFiles does words files reason → ⊥
       answers-not_refused reason refused = at known answers (refused-job reason refused)
         where
           at : (k : Option (List File)) → IfSome k (λ told. AnswersJob plan.job plan.files plan told text) → IsSomeAnd k (λ told. RefusesJob plan.job plan.files plan told reason) → ⊥
           at None a r = r
-          at (Some told) a r = meet-job plan.job plan.files plan (λ kind. Unit {0}) Made_text (λ kind. ⊥) (λ X N m. IsOneWay m) (λ X N m. AnswersFiles m plan.report plan.audit told text) (λ X N m. m.Refuses told reason)
-              (λ kind w b c. c) (λ X N m w b c. answered-refused m w plan.audit told plan.report text reason b c) ways a r
+          at (Some told) a r = meet-job plan.job plan.files plan (λ kind. Unit {0}) Made_text (λ kind. ⊥) (λ X N m. IsOneWay m) (λ X N m. AnswersFiles m (asked_of plan) told text) (λ X N m. m.Refuses told reason)
+              (λ kind w b c. c) (λ X N m w b c. answered-refused m w (asked_of plan) told text reason b c) ways a r
 
-      pub answers-not_full : FillsAudit words files → ⊥
-      answers-not_full fills = let f = fills-job fills in at known answers f.0 f.1
+      pub answers-not_full : FillsAudit does words files → ⊥
+      answers-not_full fills = let f = fills-job fills in at known answers f.0 f.1 f.2
         where
-          at : (k : Option (List File)) → IfSome k (λ told. AnswersJob plan.job plan.files plan told text) → IsTrue plan.audit → IsSomeAnd k (MeetsJob plan.job plan.files plan) → ⊥
-          at None a asked r = r
-          at (Some told) a asked r = meet-job plan.job plan.files plan (λ kind. Unit {0}) Made_text (λ kind. ⊥) (λ X N m. IsOneWay m) (λ X N m. AnswersFiles m plan.report plan.audit told text) (λ X N m. MeetsFiles m told)
-              (λ kind w b c. c) (λ X N m w b c. answered-meets m w plan.audit told plan.report text b asked c) ways a r
+          at : (k : Option (List File)) → IfSome k (λ told. AnswersJob plan.job plan.files plan told text) → IsTrue plan.audit → IsSequential plan.skeleton → IsSomeAnd k (MeetsJob plan.job plan.files plan) → ⊥
+          at None a audit preorder r = r
+          at (Some told) a audit preorder r = meet-job plan.job plan.files plan (λ kind. Unit {0}) Made_text (λ kind. ⊥) (λ X N m. IsOneWay m) (λ X N m. AnswersFiles m (asked_of plan) told text) (λ X N m. MeetsFiles m told)
+              (λ kind w b c. c) (λ X N m w b c. answered-meets m w (asked_of plan) told text preorder b audit c) ways a r
 
     module _ (is : Reason) (none : NoFault is) (stops : StopsJob plan.job plan.files plan known is) where
-      pub stops-refused : (reason : Reason) → RefusesFiles words files reason → (is ≡ reason) ⊎ (is ≡ NoMemory)
+      pub stops-refused : (reason : Reason) → RefusesFiles does words files reason → (is ≡ reason) ⊎ (is ≡ NoMemory)
       stops-refused reason refused = at known stops (refused-job reason refused)
         where
           at : (k : Option (List File)) → StopsJob plan.job plan.files plan k is → IsSomeAnd k (λ told. RefusesJob plan.job plan.files plan told reason) → (is ≡ reason) ⊎ (is ≡ NoMemory)
           at None s r = absurd r
-          at (Some told) s r = meet-job plan.job plan.files plan (λ kind. Unit {0}) (λ kind. is ≡ NoMemory) (λ kind. ⊥) (λ X N m. IsOneWay m) (λ X N m. StopsFiles m plan.audit (Some told) is) (λ X N m. m.Refuses told reason)
-              (λ kind w b c. inr b) (λ X N m w b c. stopped-refused m w plan.audit told is reason none b c) ways s r
+          at (Some told) s r = meet-job plan.job plan.files plan (λ kind. Unit {0}) (λ kind. is ≡ NoMemory) (λ kind. ⊥) (λ X N m. IsOneWay m) (λ X N m. StopsFiles m (asked_of plan) (Some told) is) (λ X N m. m.Refuses told reason)
+              (λ kind w b c. inr b) (λ X N m w b c. stopped-refused m w (asked_of plan) told is reason none b c) ways s r
 
-      pub stops-full : FillsAudit words files → IsFullOrMemory is
-      stops-full fills = at known stops (fills-job fills).1
+      pub stops-full : FillsAudit does words files → IsFullOrMemory is
+      stops-full fills = let f = fills-job fills in at known stops f.2
         where
           at : (k : Option (List File)) → StopsJob plan.job plan.files plan k is → IsSomeAnd k (MeetsJob plan.job plan.files plan) → IsFullOrMemory is
           at None s r = absurd r
-          at (Some told) s r = meet-job plan.job plan.files plan (λ kind. Unit {0}) (λ kind. is ≡ NoMemory) (λ kind. ⊥) (λ X N m. IsOneWay m) (λ X N m. StopsFiles m plan.audit (Some told) is) (λ X N m. MeetsFiles m told)
-              (λ kind w b c. absurd c) (λ X N m w b c. stopped-meets m w plan.audit told is none b c) ways s r
+          at (Some told) s r = meet-job plan.job plan.files plan (λ kind. Unit {0}) (λ kind. is ≡ NoMemory) (λ kind. ⊥) (λ X N m. IsOneWay m) (λ X N m. StopsFiles m (asked_of plan) (Some told) is) (λ X N m. MeetsFiles m told)
+              (λ kind w b c. absurd c) (λ X N m w b c. stopped-meets m w (asked_of plan) told is none (one-worker words plan is_plan.is_plan (fills-job fills).1) b c) ways s r
 
-      pub stops-fine : IsFine words files → is ≡ NoMemory
+      pub stops-fine : IsFine does words files → is ≡ NoMemory
       stops-fine fine = at known stops (fine-job fine)
         where
           at : (k : Option (List File)) → StopsJob plan.job plan.files plan k is → IsSomeAnd k (IsFineJob plan.job plan.files plan) → is ≡ NoMemory
           at None s r = absurd r
-          at (Some told) s r = meet-job plan.job plan.files plan (λ kind. Unit {0}) (λ kind. is ≡ NoMemory) (λ kind. Unit {0}) (λ X N m. IsOneWay m) (λ X N m. StopsFiles m plan.audit (Some told) is) (λ X N m. IsFineFiles m plan.audit told)
-              (λ kind w b c. b) (λ X N m w b c. stopped-fine m w plan.audit told is none b c) ways s r
+          at (Some told) s r = meet-job plan.job plan.files plan (λ kind. Unit {0}) (λ kind. is ≡ NoMemory) (λ kind. Unit {0}) (λ X N m. IsOneWay m) (λ X N m. StopsFiles m (asked_of plan) (Some told) is) (λ X N m. IsFineFiles m (asked_of plan) told)
+              (λ kind w b c. b) (λ X N m w b c. stopped-fine m w (asked_of plan) told is none b c) ways s r

@@ -1,3 +1,4 @@
+pub mod Asks
 pub mod Jobs
 pub mod Judging
 pub mod Knapsacks
@@ -7,6 +8,7 @@ pub mod Outcomes
 pub mod Reasons
 pub mod Refusals
 pub mod Runs
+pub mod Searches
 pub mod Semigroups
 pub mod ShortestTours
 pub mod Solutions

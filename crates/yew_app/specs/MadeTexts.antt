@@ -17,7 +17,7 @@ use Rattle.yew_words.specs.declared.plan.Made.{Made}
 use Rattle.yew_words.specs.declared.plan.Made.TheVariants as made
 use Rattle.yew_app.specs.Knapsacks.{IsGoodKnapsack}
 use Rattle.yew_app.specs.ShortestTours.{IsGoodTours}
-use Rattle.yew_app.specs.Texts.{plain_gap}
+use Rattle.yew_app.specs.Asks.{permitted_gap}
 
 -- four lines: what was made, with its size and seed, the best value, and how many nodes were visited and how many were cut
 abbrev pub solved_lines : List ℕ → ℕ → ℕ → ℕ → Totals → List ℕ
@@ -29,7 +29,7 @@ solved_lines made size seed best totals =
 
 -- the totals of the one log of a search of one worker
 abbrev pub sequential_totals : {N : Type 0} → SearchTree N → Totals
-sequential_totals t = all_totals (seq_log t plain_gap ∷ [])
+sequential_totals t = all_totals (seq_log t permitted_gap ∷ [])
 
 -- the best profit and the least length, as the greatest worths of the trees of the made instances tell them
 abbrev pub made_profit : ℕ → ℕ → ℕ

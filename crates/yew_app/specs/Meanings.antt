@@ -1,15 +1,16 @@
 -- What a job means whose answer a search finds: the files that it reads, the tree that it searches, and its right answers.
-use Rattle.std.specs.Prelude.{◌≡◌, ℕ, List, [], ◌∷◌, Bool, Option, Some, IfSome, Contains, IsTrue}
+use Rattle.std.specs.Prelude.{◌≡◌, ℕ, ◌≤◌, List, [], ◌∷◌, Option, Some, IfSome, Contains, IsTrue}
 use Rattle.yew_io.specs.Shelf.{File}
 use Rattle.yew_kinds.specs.declared.kind.Kind.{Kind}
 use Rattle.yew_laws.specs.SearchTree.{SearchTree}
-use Rattle.yew_log.specs.AuditFull.{IsAuditFull, MeetsLimits}
-use Rattle.yew_log.specs.Groups.{sequential}
+use Rattle.yew_log.specs.AuditFull.{MeetsLimits}
 use Rattle.yew_log.specs.SeqLog.{seq_log}
 use Rattle.yew_walk.specs.PlainSearch.{searched_tree}
 use Rattle.yew_words.specs.Word.{Word}
 use Rattle.yew_app.specs.Refusals.{Reason, CannotRead, NotInGrammar, TooLong, TooLarge, FullAudit, NoMemory}
-use Rattle.yew_app.specs.Texts.{plain_gap, first_node, IsPlainText}
+use Rattle.yew_app.specs.Asks.{permitted_gap}
+use Rattle.yew_app.specs.Texts.{IsSearchText, HasFullAudit, HasRoom}
+use Rattle.yew_app.specs.declared.asked.Asked.{Asked}
 
 -- What a job means, of instances X whose trees have nodes N: the names of its files in the order in which they are read;
 -- which files are read to which instance; which files let the one of a name be opened; for which reason files are refused,
@@ -41,26 +42,26 @@ module _ {X N : Type 0} (m : Meaning X N) where
   abbrev pub searched : X → SearchTree N
   searched instance = searched_tree (m.tree instance) m.kind
 
-  -- the text that one worker writes for an instance: the right lines of its first best node, and what is asked for of its log
-  pub record IsJobText (report audit : Bool) (instance : X) (text : List ℕ) : Type 0 where
-    pub plain : IsPlainText (searched instance) report audit (m.lines instance) text
-    pub right : m.IsRight instance (m.lines instance (first_node (searched instance)))
+  -- the text of an instance: the right lines of what was found, and what is asked for of the logs behind it
+  pub record IsJobText (asked : Asked) (instance : X) (text : List ℕ) : Type 0 where
+    pub found : IsSearchText (searched instance) asked (m.lines instance) text
+    pub right : m.IsRight instance (m.lines instance found.solution)
 
-  -- the text is what one worker writes for these files
-  abbrev pub AnswersFiles : Bool → Bool → List File → List ℕ → Type 0
-  AnswersFiles report audit told text = (instance : X) × m.Reads told instance × IsJobText report audit instance text
+  -- the text is one for these files
+  abbrev pub AnswersFiles : Asked → List File → List ℕ → Type 0
+  AnswersFiles asked told text = (instance : X) × m.Reads told instance × IsJobText asked instance text
 
   -- the files are read, and the sequential log is past what an audit has room for
   abbrev pub MeetsFiles : List File → Type 0
-  MeetsFiles told = (instance : X) × m.Reads told instance × MeetsLimits (seq_log (searched instance) plain_gap)
+  MeetsFiles told = (instance : X) × m.Reads told instance × MeetsLimits (seq_log (searched instance) permitted_gap)
 
   -- the files are read, and an audit that is asked for has room for the search
-  abbrev pub IsFineFiles : Bool → List File → Type 0
-  IsFineFiles audit told = (instance : X) × m.Reads told instance × (IsTrue audit → ¬ MeetsLimits (seq_log (searched instance) plain_gap))
+  abbrev pub IsFineFiles : Asked → List File → Type 0
+  IsFineFiles asked told = (instance : X) × m.Reads told instance × (IsTrue asked.audit → HasRoom (searched instance) asked.skeleton)
 
-  -- the log behind the answer that the audit is full, of the files that are read
-  abbrev pub FillsFiles : ℕ → ℕ → List File → Type 0
-  FillsFiles entries numbers told = (instance : X) × m.Reads told instance × IsAuditFull (searched instance) plain_gap sequential 1 entries numbers
+  -- the files are read, and the audit of this worker is full
+  abbrev pub FillsFiles : Asked → ℕ → ℕ → ℕ → List File → Type 0
+  FillsFiles asked worker entries numbers told = (instance : X) × m.Reads told instance × HasFullAudit (searched instance) asked worker entries numbers
 
   -- why no instance is read: the shelf failed at a file that was to be opened, a file is refused where the files are known,
   -- or memory ran out
@@ -73,6 +74,7 @@ module _ {X N : Type 0} (m : Meaning X N) where
   IsUnreadable known _ = ⊥
 
   -- why no text is made: no instance is read, or the audit that is asked for is full
-  abbrev pub StopsFiles : Bool → Option (List File) → Reason → Type 0
-  StopsFiles audit known (FullAudit worker entries numbers) = IsTrue audit × (worker ≡ 1) × IfSome known (FillsFiles entries numbers)
-  StopsFiles audit known reason = IsUnreadable known reason
+  abbrev pub StopsFiles : Asked → Option (List File) → Reason → Type 0
+  StopsFiles asked known (FullAudit worker entries numbers) =
+      IsTrue asked.audit × (1 ≤ worker) × (worker ≤ asked.workers) × IfSome known (FillsFiles asked worker entries numbers)
+  StopsFiles asked known reason = IsUnreadable known reason

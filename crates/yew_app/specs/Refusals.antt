@@ -1,5 +1,5 @@
 -- Why a run does not answer: the statuses, and the lines that say so.
-use Rattle.std.specs.Prelude.{ℕ, List, [], ◌∷◌, ◌++◌, decimal, codes}
+use Rattle.std.specs.Prelude.{◌≡◌, ℕ, List, [], ◌∷◌, ◌++◌, decimal, codes}
 use Rattle.yew_words.specs.declared.plan.UsageKind.{UsageKind}
 use Rattle.yew_words.specs.declared.plan.UsageKind.TheVariants as usage
 use Rattle.yew_text.specs.declared.text.TextKind.{TextKind}
@@ -62,8 +62,8 @@ status_of NoMemory = 6
 status_of (FullAudit worker entries numbers) = 4
 status_of (TaskPastLimit number) = 4
 
--- an audit is full, or memory ran out
+-- the audit of the first worker is full, or memory ran out
 abbrev pub IsFullOrMemory : Reason → Type 0
-IsFullOrMemory (FullAudit worker entries numbers) = Unit {0}
+IsFullOrMemory (FullAudit worker entries numbers) = worker ≡ 1
 IsFullOrMemory NoMemory = Unit {0}
 IsFullOrMemory _ = ⊥

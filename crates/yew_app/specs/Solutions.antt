@@ -1,25 +1,27 @@
 -- What a search has found, with the node of its solution.
-use Rattle.std.specs.Prelude.{◌≡◌, ℕ, ◌≤◌, ◌↔◌, Option, IsNone, IfSome}
+use Rattle.std.specs.Prelude.{◌≡◌, ℕ, ◌≤◌, ◌↔◌, Option, None, IsNone, IfSome}
 use Rattle.yew_kinds.specs.declared.kind.Kind.{Kind}
 use Rattle.yew_kinds.specs.declared.kind.Kind.TheVariants as kinds
-use Rattle.yew_kinds.specs.Wrappers.{clipped_tree}
 use Rattle.yew_laws.specs.Greatest.{greatest, Reach}
 use Rattle.yew_laws.specs.SearchTree.{SearchTree}
 use Rattle.yew_app.specs.declared.solution.Solution.{Solution}
 use Rattle.yew_app.specs.declared.solution.Solution.TheVariants as solutions
-use Rattle.yew_app.specs.Texts.{first_node}
+
+-- the node that was found, if one was
+abbrev pub node_of : {N S : Type 0} → Solution N S → Option N
+node_of (solutions.Count sum) = None
+node_of (solutions.Best worth node) = node
+node_of (solutions.Reach node) = node
 
 module _ {N : Type 0} (t : SearchTree N) (sound : N → Type 0) where
-  -- the first node of the greatest worth; there is none exactly where that worth is 0
+  -- a node of the greatest worth; there is none exactly where that worth is 0
   pub record IsBestNode (worth : ℕ) (node : Option N) : Type 0 where
     pub worth_is : worth ≡ greatest t
-    pub first : first_node t ≡ node
     pub absent : IsNone node ↔ (worth ≡ 0)
     pub has_worth : IfSome node (λ n. sound n × (worth ≡ t.worth n))
 
-  -- the first node that meets a target; where there is none, no node does
+  -- a node that meets a target; where there is none, no node does
   pub record IsReachedNode (target : ℕ) (node : Option N) : Type 0 where
-    pub first : first_node (clipped_tree t target) ≡ node
     pub absent : IsNone node → ¬ Reach t target
     pub meets : IfSome node (λ n. sound n × (target ≤ t.worth n))
 

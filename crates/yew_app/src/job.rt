@@ -5,11 +5,10 @@ ghost use Rattle.yew_io.specs.Faults.{Rose};
 ghost use Rattle.yew_kinds.specs.Kinds.{IsTargetInRange};
 ghost use Rattle.yew_laws.specs.Fold.{Fold};
 ghost use Rattle.yew_laws.specs.SearchTree.{search_tree};
-ghost use Rattle.yew_app.specs.Meanings.{Meaning, known_files, searched, IsUnreadable};
+ghost use Rattle.yew_app.specs.Meanings.{Meaning, known_files, IsUnreadable};
 ghost use Rattle.yew_app.specs.Reasons.{reason_of};
 ghost use Rattle.yew_app.specs.Refusals.{CannotRead};
-ghost use Rattle.yew_app.specs.Solutions.{IsSolution};
-ghost use Rattle.yew_app.specs.Texts.{first_node};
+ghost use Rattle.yew_app.specs.Solutions.{IsSolution, node_of};
 
 use crate::refusal::Refusal;
 use crate::solution::Solution;
@@ -64,7 +63,7 @@ pub(crate) trait SearchJob {
         requires solution { let t = (meaning self.now).tree problem.now in
             let fold = Fold t (Self.Tally.join (counts self.now)) (Self.Tally.none (counts self.now)) (Self.Tally.of (counts self.now)) in
             IsSolution t (Self.Instance.sound problem.now) fold (meaning self.now).kind solution.now }
-        ensures lines { IfOk result (λ lines. lines.items ≡ (meaning self.now).lines problem.now (first_node (searched (meaning self.now) problem.now))) }
+        ensures lines { IfOk result (λ lines. lines.items ≡ (meaning self.now).lines problem.now (node_of solution.now)) }
         ensures right { IfOk result (λ lines. (meaning self.now).IsRight problem.now lines.items) };
 
     /// The tree is that of the problem.

@@ -6,6 +6,8 @@
 //! cause.
 #![tactic(auto)]
 
+mod asked;
+mod crew;
 mod job;
 mod knapsack;
 pub mod laws;
@@ -13,8 +15,8 @@ mod made;
 mod plan;
 mod reading;
 mod refusal;
-mod run;
 mod search;
+mod searcher;
 mod semigroups;
 mod solution;
 mod solve;
@@ -22,6 +24,7 @@ mod subgraph;
 mod tail;
 #[cfg(test)]
 mod tests;
+mod top;
 mod tours;
 
-pub use run::run_plain;
+pub use top::{run, run_plain};

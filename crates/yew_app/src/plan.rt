@@ -1,4 +1,4 @@
-//! The plan of the words, where one worker can do it.
+//! The plan of the words, where the searcher can do it.
 
 ghost use Rattle.std.specs.Prelude.{◌≡◌, ◌∷◌, [], IfOk, IfErr, IsErrAnd};
 ghost use Rattle.yew_words.specs.Word.{texts};
@@ -6,35 +6,37 @@ ghost use Rattle.yew_words.specs.Plans.{Planned, planned, PlanOf};
 ghost use Rattle.yew_words.specs.Ranges.{IsWithin, file_count_of};
 ghost use Rattle.yew_app.specs.Reasons.{reason_of};
 ghost use Rattle.yew_app.specs.Refusals.{Reason};
-ghost use Rattle.yew_app.specs.Runs.{IsPlain, RefusesWords};
+ghost use Rattle.yew_app.specs.Runs.{IsPlanOf, RefusesWords};
 
 use crate::refusal::Refusal;
-use yew_words::{Plan, Skeleton, Usage, UsageKind, read_words};
+use crate::searcher::Searcher;
+use yew_words::{Plan, Usage, UsageKind, read_words};
 
-/// The plan of the words, or what is wrong with them. A plan with another skeleton than `sequential` is refused at its
+/// The plan of the words, or what is wrong with them. A plan with a skeleton that the searcher does not do is refused at its
 /// second word.
-pub(crate) fn read_plain<'a>(words: &'a [String]) -> Result<Plan<'a>, Refusal<'a>>
-    ensures plain { IfOk result (λ plan. IsPlain (texts words.now) (planned plan)) }
+pub(crate) fn read_plan<'a, W: Searcher>(
+    searcher: &W,
+    words: &'a [String],
+) -> Result<Plan<'a>, Refusal<'a>>
+    ensures is_plan { IfOk result (λ plan. IsPlanOf W.does (texts words.now) (planned plan)) }
     ensures within { IfOk result (λ plan. IsWithin (planned plan)) }
     ensures one_plan { IfOk result (λ plan. (other : Planned) → PlanOf (texts words.now) other → planned plan ≡ other) }
-    ensures no_plan { IfErr result (λ refusal. (other : Planned) → ¬ IsPlain (texts words.now) other) }
-    ensures refused { IfErr result (λ refusal. RefusesWords (texts words.now) (reason_of refusal)) }
-    ensures each_reason { (reason : Reason) → RefusesWords (texts words.now) reason → IsErrAnd result (λ refusal. reason_of refusal ≡ reason) }
+    ensures no_plan { IfErr result (λ refusal. (other : Planned) → ¬ IsPlanOf W.does (texts words.now) other) }
+    ensures refused { IfErr result (λ refusal. RefusesWords W.does (texts words.now) (reason_of refusal)) }
+    ensures each_reason { (reason : Reason) → RefusesWords W.does (texts words.now) reason → IsErrAnd result (λ refusal. reason_of refusal ≡ reason) }
 {
     let plan = match read_words(words) {
         Ok(plan) => plan,
         Err(usage) => return Err(Refusal::Usage(usage)),
     };
-    match plan.skeleton {
-        Skeleton::Sequential => {}
-        _ => {
-            return Err(Refusal::Usage(Usage {
-                place: 2,
-                kind: UsageKind::NotHere,
-            }));
-        }
+    if searcher.knows(plan.skeleton) {
+        Ok(plan)
+    } else {
+        Err(Refusal::Usage(Usage {
+            place: 2,
+            kind: UsageKind::NotHere,
+        }))
     }
-    Ok(plan)
 }
 
 /// The name of the only file of a plan that has one.

@@ -1,11 +1,11 @@
 //! What a search has found, with the node of its solution in the place of its path.
 
 ghost use Rattle.std.specs.Prelude.{◌≡◌, IfOk, option_and_then};
+ghost use Rattle.yew_crew.specs.CrewSearch.{IsCrewAnswer, solution_of as found_by};
 ghost use Rattle.yew_laws.specs.SearchTree.{search_tree, at_path};
 ghost use Rattle.yew_kinds.specs.declared.kind.Kind.{Kind as Sought};
-ghost use Rattle.yew_walk.specs.Hands.{numbers_of};
-ghost use Rattle.yew_walk.specs.Kinds.{IsAnswer};
-ghost use Rattle.yew_app.specs.Solutions.{IsSolution};
+ghost use Rattle.yew_laws.specs.PathValue.{PathValue};
+ghost use Rattle.yew_app.specs.Solutions.{IsSolution, node_of};
 
 use std::alloc::Global;
 use yew_kinds::Answer;
@@ -16,9 +16,9 @@ use yew_laws::{Memory, Path, Problem, rebuild};
 pub(crate) enum Solution<N, S> {
     /// The fold of all nodes.
     Count(S),
-    /// The greatest worth, and the first node that has it; there is none exactly where the worth is 0.
+    /// The greatest worth, and a node that has it; there is none exactly where the worth is 0.
     Best { worth: u64, node: Option<N> },
-    /// The first node that meets the target, where there is one.
+    /// A node that meets the target, where there is one.
     Reach(Option<N>),
 }
 
@@ -29,7 +29,7 @@ fn found_node<P: Problem>(
     path: Option<Path>,
 ) -> Result<Option<P::Node>, Memory>
     requires root { P.sound problem.now (P.root problem.now) }
-    ensures { IfOk result (λ found. found ≡ option_and_then (λ numbers. at_path (search_tree P.Problem problem.now) numbers) (numbers_of path)) }
+    ensures { IfOk result (λ found. found ≡ option_and_then (λ (p : PathValue). at_path (search_tree P.Problem problem.now) p.numbers) path) }
 {
     match path {
         Some(path) => rebuild(alloc, problem, &path),
@@ -44,8 +44,9 @@ pub(crate) fn solution_of<P: Problem, S: Drop>(
     answer: Answer<S>,
 ) -> Result<Solution<P::Node, S>, Memory>
     requires root { P.sound problem.now (P.root problem.now) }
-    ensures { (fold : S) (kind : Sought) → IsAnswer (search_tree P.Problem problem.now) fold kind answer →
+    ensures right { (fold : S) (kind : Sought) → IsCrewAnswer (search_tree P.Problem problem.now) fold kind answer →
         IfOk result (IsSolution (search_tree P.Problem problem.now) (P.sound problem.now) fold kind) }
+    ensures node { IfOk result (λ solution. node_of solution ≡ found_by (search_tree P.Problem problem.now) answer) }
 {
     match answer {
         Answer::Count(sum) => Ok(Solution::Count(sum)),

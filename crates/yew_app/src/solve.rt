@@ -5,33 +5,38 @@ ghost use Rattle.yew_io.specs.Faults.{Rose};
 ghost use Rattle.yew_words.specs.Plans.{planned};
 ghost use Rattle.yew_words.specs.Ranges.{IsWithin};
 ghost use Rattle.yew_words.specs.Word.{texts};
+ghost use Rattle.yew_app.specs.Asks.{IsSequential, IsUnordered};
 ghost use Rattle.yew_app.specs.Meanings.{known_files};
 ghost use Rattle.yew_app.specs.Reasons.{reason_of};
 ghost use Rattle.yew_app.specs.Refusals.{CannotRead};
 ghost use Rattle.yew_app.specs.Runs.{AnswersJob, StopsJob};
 
+use crate::asked::{Asked, plan_is_askable};
+use crate::crew::Crew;
 use crate::knapsack::KnapsackJob;
 use crate::made::text_of_made;
 use crate::plan::{both_files, only_file};
 use crate::refusal::Refusal;
-use crate::search::solve_search;
+use crate::search::{solve_alone, solve_together};
 use crate::semigroups::SemigroupsJob;
 use crate::subgraph::SubgraphJob;
-use crate::tail::Asked;
 use crate::tours::ToursJob;
 use std::alloc::Global;
-use yew_io::Shelf;
+use std::sync::Wait;
+use std::thread::Threads;
+use yew_io::{Gate, Shelf};
 use yew_kinds::ByDepth;
 use yew_laws::Memory;
 use yew_words::{Job, Plan};
 
-/// The whole text that a plan asks for, or why there is none. Each job that searches is one row.
-pub(crate) fn solve<'a, S: Shelf<'a>>(
+/// The whole text that a plan for one worker in preorder asks for, or why there is none. Each job that searches is one row.
+pub(crate) fn solve_plain<'a, S: Shelf<'a>>(
     alloc: Global,
     shelf: &mut S,
     plan: &Plan<'a>,
 ) -> Result<Vec<u8>, Refusal<'a>>
     requires within { IsWithin (planned plan.now) }
+    requires done { IsSequential plan.now.skeleton }
     ensures answers { IfOk result (λ text. let names = texts plan.now.files.now in
         IfSome (known_files names (S.files shelf.old)) (λ told. AnswersJob plan.now.job names (planned plan.now) told text.items)) }
     ensures cause { IfErr result (λ refusal. let names = texts plan.now.files.now in
@@ -41,7 +46,10 @@ pub(crate) fn solve<'a, S: Shelf<'a>>(
     ensures files { S.files shelf.new ≡ S.files shelf.old }
     ensures counted { S.faults shelf.old ≤ S.faults shelf.new }
 {
+    plan_is_askable(plan);
     let asked = Asked {
+        skeleton: plan.skeleton,
+        workers: plan.workers,
         report: plan.report,
         audit: plan.audit,
     };
@@ -51,13 +59,13 @@ pub(crate) fn solve<'a, S: Shelf<'a>>(
                 name: only_file(plan),
                 target: plan.target,
             };
-            solve_search(alloc, shelf, &job, asked)
+            solve_alone(alloc, shelf, &job, asked)
         }
         Job::Tsp => {
             let job = ToursJob {
                 name: only_file(plan),
             };
-            solve_search(alloc, shelf, &job, asked)
+            solve_alone(alloc, shelf, &job, asked)
         }
         Job::Subgraph => {
             let names = both_files(plan);
@@ -65,13 +73,73 @@ pub(crate) fn solve<'a, S: Shelf<'a>>(
                 pattern: names.first,
                 target: names.second,
             };
-            solve_search(alloc, shelf, &job, asked)
+            solve_alone(alloc, shelf, &job, asked)
         }
         Job::Semigroups => {
             let job = SemigroupsJob {
                 counts: ByDepth { depths: plan.genus },
             };
-            solve_search(alloc, shelf, &job, asked)
+            solve_alone(alloc, shelf, &job, asked)
+        }
+        Job::Make(made) => match text_of_made(alloc, made, plan.seed, plan.size, plan.solve) {
+            Ok(text) => Ok(text),
+            Err(Memory) => Err(Refusal::Memory),
+        },
+    }
+}
+
+/// The whole text that a plan for a crew asks for, or why there is none. Each job that searches is one row.
+pub(crate) fn solve_by_crew<'a, S: Shelf<'a>, G: Gate, H: Threads + Wait + Sync>(
+    crew: &Crew<H, G>,
+    alloc: Global,
+    shelf: &mut S,
+    plan: &Plan<'a>,
+) -> Result<Vec<u8>, Refusal<'a>>
+    requires within { IsWithin (planned plan.now) }
+    requires done { IsUnordered plan.now.skeleton }
+    ensures answers { IfOk result (λ text. let names = texts plan.now.files.now in
+        IfSome (known_files names (S.files shelf.old)) (λ told. AnswersJob plan.now.job names (planned plan.now) told text.items)) }
+    ensures cause { IfErr result (λ refusal. let names = texts plan.now.files.now in
+        StopsJob plan.now.job names (planned plan.now) (known_files names (S.files shelf.old)) (reason_of refusal)) }
+    ensures read_fault { (name : List ℕ) → IsErrAnd result (λ refusal. reason_of refusal ≡ CannotRead name) →
+        Rose (S.faults shelf.old) (S.faults shelf.new) × (S.failed shelf.new ≡ true) × (S.name shelf.new ≡ Some name) }
+    ensures files { S.files shelf.new ≡ S.files shelf.old }
+    ensures counted { S.faults shelf.old ≤ S.faults shelf.new }
+{
+    plan_is_askable(plan);
+    let asked = Asked {
+        skeleton: plan.skeleton,
+        workers: plan.workers,
+        report: plan.report,
+        audit: plan.audit,
+    };
+    match plan.job {
+        Job::Knapsack => {
+            let job = KnapsackJob {
+                name: only_file(plan),
+                target: plan.target,
+            };
+            solve_together(crew, alloc, shelf, &job, asked)
+        }
+        Job::Tsp => {
+            let job = ToursJob {
+                name: only_file(plan),
+            };
+            solve_together(crew, alloc, shelf, &job, asked)
+        }
+        Job::Subgraph => {
+            let names = both_files(plan);
+            let job = SubgraphJob {
+                pattern: names.first,
+                target: names.second,
+            };
+            solve_together(crew, alloc, shelf, &job, asked)
+        }
+        Job::Semigroups => {
+            let job = SemigroupsJob {
+                counts: ByDepth { depths: plan.genus },
+            };
+            solve_together(crew, alloc, shelf, &job, asked)
         }
         Job::Make(made) => match text_of_made(alloc, made, plan.seed, plan.size, plan.solve) {
             Ok(text) => Ok(text),

@@ -1,23 +1,16 @@
 //! What stands behind an answer: the report and the audit of the search, each where it is asked for.
 
-ghost use Rattle.std.specs.Prelude.{◌≡◌, ◌++◌, [], ◌∷◌, length, IfOk, OnOk, if◌then◌else◌};
+ghost use Rattle.std.specs.Prelude.{◌≡◌, ◌++◌, [], map, IfOk, OnOk, if◌then◌else◌};
 ghost use Rattle.yew_lines.specs.Spelling.{line, count_text};
 ghost use Rattle.yew_log.specs.AuditText.{report_text, audit_text as text_of_logs};
-ghost use Rattle.yew_log.specs.Logs.{CountsLog, FullLog};
+ghost use Rattle.yew_log.specs.Totals.{totals_sum};
+ghost use Rattle.yew_app.specs.Searches.{joint_totals};
 
+use crate::asked::Asked;
 use std::alloc::Global;
 use yew_laws::Memory;
 use yew_lines::{push_count, push_line_end, push_spaced, push_text};
 use yew_log::{Counts, Full, Recorder, Totals, audit_text};
-
-/// What is asked for beside the answer.
-#[derive(Clone, Copy, Debug)]
-pub(crate) struct Asked {
-    /// The six lines of the report.
-    pub report: bool,
-    /// The audit.
-    pub audit: bool,
-}
 
 /// The lines of an answer, and the logs of the search that found it.
 #[derive(Drop)]
@@ -49,35 +42,71 @@ pub(crate) fn push_report(out: &mut Vec<u8>, workers: u32, totals: &Totals) -> R
     push_count_line(out, b"cut ", totals.cut)
 }
 
-/// The whole text of an answer without an audit: its lines, and the report of its one log where it is asked for.
-pub(crate) fn text_with_counts(answered: Answered<Counts>, report: bool) -> Result<Vec<u8>, Memory>
-    requires { length answered.logs.items ≡ 1 }
-    ensures { IfOk result (λ text. (log : CountsLog) → answered.logs.items ≡ log ∷ [] →
-        text.items ≡ answered.lines.items ++ (if report then report_text 1 log.totals else [])) }
+/// The totals of both, each of which stays at 2^64 - 1.
+fn sum_of(first: &Totals, second: &Totals) -> Totals
+    ensures { result ≡ totals_sum first.now second.now }
+{
+    Totals {
+        taken: first.taken.saturating_add(second.taken),
+        spawned: first.spawned.saturating_add(second.spawned),
+        handed: first.handed.saturating_add(second.handed),
+        visited: first.visited.saturating_add(second.visited),
+        cut: first.cut.saturating_add(second.cut),
+    }
+}
+
+/// The totals of all logs together.
+fn totals_together<R: Recorder>(logs: &[R]) -> Totals
+    ensures { result ≡ joint_totals (map (λ log. R.totals log) logs.now) }
+{
+    let mut together = Totals {
+        taken: 0,
+        spawned: 0,
+        handed: 0,
+        visited: 0,
+        cut: 0,
+    };
+    for log in logs {
+        together = sum_of(&together, &log.totals());
+    }
+    together
+}
+
+/// Appends the report of these logs, one of each worker, where it is asked for.
+fn push_asked_report<R: Recorder>(out: &mut Vec<u8>, asked: Asked, logs: &[R]) -> Result<(), Memory>
+    ensures { OnOk result (out.new.items ≡ out.old.items
+        ++ (if asked.report then report_text asked.workers (joint_totals (map (λ log. R.totals log) logs.now)) else [])) }
+{
+    if asked.report {
+        push_report(out, asked.workers, &totals_together(logs))?;
+    }
+    Ok(())
+}
+
+/// The whole text of an answer without an audit: its lines, and the report of its logs where it is asked for.
+pub(crate) fn text_with_counts(answered: Answered<Counts>, asked: Asked) -> Result<Vec<u8>, Memory>
+    ensures { IfOk result (λ text. text.items ≡ answered.lines.items
+        ++ (if asked.report then report_text asked.workers (joint_totals (map (λ log. log.totals) answered.logs.items)) else [])) }
 {
     let Answered { lines, logs } = answered;
     let mut text = lines;
-    if report {
-        push_report(&mut text, 1, &logs[0].totals())?;
-    }
+    push_asked_report(&mut text, asked, &logs)?;
     Ok(text)
 }
 
-/// The whole text of an answer with an audit: its lines, the report of its one log where it is asked for, and the audit.
+/// The whole text of an answer with an audit: its lines, the report of its logs where it is asked for, and their audit.
 pub(crate) fn text_with_audit(
     alloc: Global,
     answered: Answered<Full>,
-    report: bool,
+    asked: Asked,
 ) -> Result<Vec<u8>, Memory>
-    requires { length answered.logs.items ≡ 1 }
-    ensures { IfOk result (λ text. (log : FullLog) → answered.logs.items ≡ log ∷ [] →
-        text.items ≡ answered.lines.items ++ ((if report then report_text 1 log.totals else []) ++ text_of_logs (log.notes ∷ []))) }
+    ensures { IfOk result (λ text. text.items ≡ answered.lines.items
+        ++ ((if asked.report then report_text asked.workers (joint_totals (map (λ log. log.totals) answered.logs.items)) else [])
+        ++ text_of_logs (map (λ log. log.notes) answered.logs.items))) }
 {
     let Answered { lines, logs } = answered;
     let mut text = lines;
-    if report {
-        push_report(&mut text, 1, &logs[0].totals())?;
-    }
+    push_asked_report(&mut text, asked, &logs)?;
     let audit = audit_text(alloc, &logs)?;
     push_text(&mut text, &audit)?;
     Ok(text)

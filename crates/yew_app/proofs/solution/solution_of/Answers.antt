@@ -1,17 +1,17 @@
 use Rattle.yew_laws.specs.SearchTree.{search_tree}
 use Rattle.std.proofs.Common.{subst}
-use Rattle.yew_walk.specs.Kinds.{IsAnswer}
+use Rattle.yew_crew.specs.CrewSearch.{IsCrewAnswer}
 use Rattle.yew_app.proofs.FoundNodes.{solution-best, solution-reach}
 use Rattle.yew_app.proofs.solution.solution_of.Goals as goal
 
-pub returns-in_ok-node-in-Best : goal.returns-in_ok-node-in-Best
-returns-in_ok-node-in-Best g c = λ fold kind answer.
+pub returns-in_ok-node-in-Best-clause-right : goal.returns-in_ok-node-in-Best-clause-right
+returns-in_ok-node-in-Best-clause-right g c = λ fold kind answer.
     let t = search_tree g.P.Problem c.args.problem.now in
     solution-best t (g.P.Problem.ranked c.args.problem.now) c.requires.root fold kind c.in-Best.worth c.in-Best.path c.in_ok-node-in-Best.node c.in_ok-node-in-Best.ensures
-    (subst (IsAnswer t fold kind) c.in-Best.is answer)
+    (subst (IsCrewAnswer t fold kind) c.in-Best.is answer)
 
-pub returns-in_ok-node-in-Reach : goal.returns-in_ok-node-in-Reach
-returns-in_ok-node-in-Reach g c = λ fold kind answer.
+pub returns-in_ok-node-in-Reach-clause-right : goal.returns-in_ok-node-in-Reach-clause-right
+returns-in_ok-node-in-Reach-clause-right g c = λ fold kind answer.
     let t = search_tree g.P.Problem c.args.problem.now in
     solution-reach t (g.P.Problem.ranked c.args.problem.now) c.requires.root fold kind c.in-Reach.path c.in_ok-node-in-Reach.node c.in_ok-node-in-Reach.ensures
-    (subst (IsAnswer t fold kind) c.in-Reach.is answer)
+    (subst (IsCrewAnswer t fold kind) c.in-Reach.is answer)

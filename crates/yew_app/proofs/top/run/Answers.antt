@@ -1,11 +1,12 @@
 use Rattle.std.proofs.Common.{◌⊎◌, refl, subst, ap, ◌∙◌, inl, inr, ⊎_elim}
 use Rattle.yew_words.specs.Word.{texts}
+use Rattle.yew_app.specs.Asks.{IsUnordered}
 use Rattle.yew_app.specs.Reasons.{reason_of}
 use Rattle.yew_app.specs.Refusals.{CannotWrite, status_of}
 use Rattle.yew_app.specs.Outcomes.{outside, Says}
 use Rattle.yew_app.proofs.Causes.{has-cause}
 use Rattle.yew_app.proofs.FullAudits.{full-says}
-use Rattle.yew_app.proofs.run.run_plain.Goals as goal
+use Rattle.yew_app.proofs.top.run.Goals as goal
 
 pub returns-in-Ok-write_whole-clause-files_refused : goal.returns-in-Ok-write_whole-clause-files_refused
 returns-in-Ok-write_whole-clause-files_refused g c = λ no_fault reason refused. absurd (c.in-Ok.ensures.files_refused no_fault reason refused)
@@ -31,7 +32,7 @@ pub returns-clause-files_refused : goal.returns-clause-files_refused
 returns-clause-files_refused g c = λ no_fault.
     let reason_is = reason_of c.in-Err.refusal in
     let before = outside g.S.Shelf g.K.Sink g.E.Sink c.args.shelf.now c.args.out.now c.args.err.now in
-    let after = outside g.S.Shelf g.K.Sink g.E.Sink c.text_of.new.shelf c.args.out.now c.refuse-in-Err.new.sink in
+    let after = outside g.S.Shelf g.K.Sink g.E.Sink c.crew_text.new.shelf c.args.out.now c.refuse-in-Err.new.sink in
     let status = c.refuse-in-Err.result in
     let says : Says before after status reason_is = record { status_is = c.refuse-in-Err.ensures.status; prefix = c.refuse-in-Err.ensures.prefix; whole = c.refuse-in-Err.ensures.whole } in
     λ reason refused. ⊎_elim
@@ -45,9 +46,9 @@ returns-clause-refused g c = λ not_zero. (
   record {
     says = record { status_is = c.refuse-in-Err.ensures.status; prefix = c.refuse-in-Err.ensures.prefix; whole = c.refuse-in-Err.ensures.whole };
     cause =
-        has-cause (texts c.args.words.now)
+        has-cause IsUnordered (texts c.args.words.now)
         (outside g.S.Shelf g.K.Sink g.E.Sink c.args.shelf.now c.args.out.now c.args.err.now)
-        (outside g.S.Shelf g.K.Sink g.E.Sink c.text_of.new.shelf c.args.out.now c.refuse-in-Err.new.sink)
+        (outside g.S.Shelf g.K.Sink g.E.Sink c.crew_text.new.shelf c.args.out.now c.refuse-in-Err.new.sink)
         (reason_of c.in-Err.refusal) c.in-Err.ensures.cause c.in-Err.ensures.read_fault refl;
   },
 )
@@ -56,6 +57,6 @@ pub returns-clause-audit_full : goal.returns-clause-audit_full
 returns-clause-audit_full g c = λ no_fault.
     let reason_is = reason_of c.in-Err.refusal in
     let before = outside g.S.Shelf g.K.Sink g.E.Sink c.args.shelf.now c.args.out.now c.args.err.now in
-    let after = outside g.S.Shelf g.K.Sink g.E.Sink c.text_of.new.shelf c.args.out.now c.refuse-in-Err.new.sink in
+    let after = outside g.S.Shelf g.K.Sink g.E.Sink c.crew_text.new.shelf c.args.out.now c.refuse-in-Err.new.sink in
     let says : Says before after c.refuse-in-Err.result reason_is = record { status_is = c.refuse-in-Err.ensures.status; prefix = c.refuse-in-Err.ensures.prefix; whole = c.refuse-in-Err.ensures.whole } in
-    λ fills. full-says (texts c.args.words.now) (g.S.Shelf.files c.args.shelf.now) before after c.refuse-in-Err.result reason_is (c.in-Err.ensures.audit_full no_fault fills) c.in-Err.ensures.cause says
+    λ fills. full-says before after c.refuse-in-Err.result reason_is (c.in-Err.ensures.audit_full no_fault fills) says

@@ -1,7 +1,7 @@
 use Rattle.yew_app.specs.Reasons.{reason_of}
 use Rattle.yew_app.specs.Refusals.{fault_line}
 use Rattle.yew_app.proofs.Writing.{prefix_whole}
-use Rattle.yew_app.proofs.run.refuse.Goals as goal
+use Rattle.yew_app.proofs.top.refuse.Goals as goal
 
 pub returns-in-Ok-clause-prefix : goal.returns-in-Ok-clause-prefix
 returns-in-Ok-clause-prefix g c =

@@ -1,0 +1,89 @@
+-- A search of one worker in preorder answers as a crew of one worker does, and finds the first best node.
+use Rattle.std.proofs.Common.{◌≡◌, ◌≤◌, ℕ, List, [], ◌∷◌, map, Option, Some, None, refl, ap, sym, subst, ◌∙◌, arith}
+use Rattle.std.specs.Prelude.{◌==◌, if◌then◌else◌, option_and_then}
+use Rattle.yew_kinds.specs.declared.kind.Answer.{Answer}
+use Rattle.yew_kinds.specs.declared.kind.Answer.TheVariants as answers
+use Rattle.yew_kinds.specs.declared.kind.Kind.{Kind}
+use Rattle.yew_kinds.specs.declared.kind.Kind.TheVariants as kinds
+use Rattle.yew_kinds.specs.Wrappers.{counted_tree, clipped_tree}
+use Rattle.yew_laws.specs.Greatest.{greatest_of, greatest, first_best, first_with}
+use Rattle.yew_laws.specs.PathValue.{PathValue}
+use Rattle.yew_laws.specs.SearchTree.{SearchTree, at_path, preorder}
+use Rattle.yew_laws.specs.Tree.{Member}
+use Rattle.yew_log.specs.Groups.{Skeleton as Table, sequential}
+use Rattle.yew_log.specs.AuditFull.{IsAuditFull}
+use Rattle.yew_log.specs.SeqLog.{seq_log}
+use Rattle.yew_log.specs.WholeSearch.{AreLogs}
+use Rattle.yew_walk.specs.declared.fault.SearchFault.{SearchFault}
+use Rattle.yew_walk.specs.declared.fault.SearchFault.TheVariants.{Memory, AuditFull, TooManyTasks}
+use Rattle.yew_walk.specs.Answers.{IsBest, IsReached}
+use Rattle.yew_walk.specs.Hands.{numbers_of}
+use Rattle.yew_walk.specs.Kinds.{IsAnswer}
+use Rattle.yew_walk.specs.LogViews.{LogView}
+use Rattle.yew_walk.specs.PlainSearch.{searched_tree, HasPlainLog, IsPlainFault}
+use Rattle.yew_crew.specs.CrewSearch.{solution_of, IsCrewAnswer, HasCrewLogs, IsCrewFault}
+use Rattle.yew_app.specs.Texts.{first_node}
+use Rattle.yew_app.proofs.SearchTexts.{plain-are_logs}
+
+module _ {N : Type 0} (t : SearchTree N) where
+  -- the answer is right
+  pub crew-answer : {S : Type 0} (fold : S) (kind : Kind) (answer : Answer S) → IsAnswer t fold kind answer → IsCrewAnswer t fold kind answer
+  crew-answer fold kinds.Count (answers.Count sum) is = is
+  crew-answer fold kinds.Count (answers.Best worth path) is = is
+  crew-answer fold kinds.Count (answers.Reach path) is = is
+  crew-answer fold kinds.Best (answers.Count sum) is = is
+  crew-answer fold kinds.Best (answers.Best worth path) is = record { worth_is = is.worth_is; absent = is.absent; has_worth = is.has_worth }
+  crew-answer fold kinds.Best (answers.Reach path) is = is
+  crew-answer fold (kinds.Reach target) (answers.Count sum) is = is
+  crew-answer fold (kinds.Reach target) (answers.Best worth path) is = is
+  crew-answer fold (kinds.Reach target) (answers.Reach path) is = record { exists = is.exists; meets = is.meets }
+
+  -- the node at a path
+  node-at : (path : Option PathValue) → option_and_then (λ (p : PathValue). at_path t p.numbers) path ≡ option_and_then (λ numbers. at_path t numbers) (numbers_of path)
+  node-at None = refl
+  node-at (Some p) = refl
+
+  none-counted : (ms : List (Member N)) → greatest_of (λ n. 0) ms ≡ 0
+  none-counted [] = refl
+  none-counted (m ∷ ms) = let rest = none-counted ms in omega (arith, rest)
+
+  -- no node of a count is an answer
+  first-counted : None ≡ first_node (counted_tree t)
+  first-counted = ap (λ (w : ℕ). option_and_then (λ path. at_path t path) (if w == 0 then None else first_with (λ n. 0) w (preorder t))) (sym (none-counted (preorder t)))
+
+  -- the solution is the first best node
+  pub solution-first : {S : Type 0} (fold : S) (kind : Kind) (answer : Answer S) → IsAnswer t fold kind answer → solution_of t answer ≡ first_node (searched_tree t kind)
+  solution-first fold kinds.Count (answers.Count sum) is = first-counted
+  solution-first fold kinds.Count (answers.Best worth path) is = absurd is
+  solution-first fold kinds.Count (answers.Reach path) is = absurd is
+  solution-first fold kinds.Best (answers.Count sum) is = absurd is
+  solution-first fold kinds.Best (answers.Best worth path) is = node-at path ∙ ap (option_and_then (λ numbers. at_path t numbers)) is.path_is
+  solution-first fold kinds.Best (answers.Reach path) is = absurd is
+  solution-first fold (kinds.Reach target) (answers.Count sum) is = absurd is
+  solution-first fold (kinds.Reach target) (answers.Best worth path) is = absurd is
+  solution-first fold (kinds.Reach target) (answers.Reach path) is = node-at path ∙ ap (option_and_then (λ numbers. at_path t numbers)) is.path_is
+
+  -- its one log is the logs of a crew of one worker
+  pub crew-logs : {R : Type 0} (view : R → LogView) (table : Table) (workers : ℕ) (solution : Option N) (logs : List R) → sequential ≡ table → 1 ≡ workers → first_node t ≡ solution
+      → AreLogs t 0 sequential 1 (seq_log t 0 ∷ []) (first_node t) → HasPlainLog t view logs → HasCrewLogs t 0 table workers (map view logs) solution
+  crew-logs view table workers solution logs in_preorder alone first are has = record {
+    entries = seq_log t 0 ∷ [];
+    are_logs = subst (λ (o : Option N). AreLogs t 0 table workers (seq_log t 0 ∷ []) o) first
+        (subst (λ (w : ℕ). AreLogs t 0 table w (seq_log t 0 ∷ []) (first_node t)) alone
+        (subst (λ (s : Table). AreLogs t 0 s 1 (seq_log t 0 ∷ []) (first_node t)) in_preorder are));
+    each = plain-are_logs view t logs has;
+  }
+
+  -- and why it was refused is why that is
+  pub crew-fault : (table : Table) (workers : ℕ) (tells : Type 0) (fault : SearchFault) → sequential ≡ table → 1 ≡ workers → IsPlainFault t tells fault → IsCrewFault t 0 table workers tells fault
+  crew-fault table workers tells Memory in_preorder alone refused = tt
+  crew-fault table workers tells (AuditFull worker entries numbers) in_preorder alone refused =
+      let first = refused.1.0 in (
+        refused.0,
+        (
+          omega (arith, first),
+          omega (arith, first, alone),
+          subst (λ (w : ℕ). IsAuditFull t 0 table w entries numbers) alone (subst (λ (s : Table). IsAuditFull t 0 s 1 entries numbers) in_preorder refused.1.1),
+        ),
+      )
+  crew-fault table workers tells (TooManyTasks number) in_preorder alone refused = refused

@@ -1,0 +1,53 @@
+use Rattle.std.proofs.Common.{inr}
+use Rattle.yew_words.specs.Plans.{planned}
+use Rattle.yew_words.specs.Word.{texts}
+use Rattle.yew_app.specs.Asks.{IsSequential}
+use Rattle.yew_app.specs.Reasons.{reason_of}
+use Rattle.yew_app.proofs.Serving.{cause-of, answers-not_refused, answers-not_full, stops-refused, stops-full, stops-fine}
+use Rattle.yew_app.proofs.top.plain_text.Goals as goal
+
+pub returns-in-Err-clause-files_refused : goal.returns-in-Err-clause-files_refused
+returns-in-Err-clause-files_refused g c = λ no_fault reason refused. absurd (c.in-Err.ensures.no_plan refused.plan refused.is_plan)
+
+pub returns-in-Err-clause-audit_full : goal.returns-in-Err-clause-audit_full
+returns-in-Err-clause-audit_full g c = λ no_fault fills. absurd (c.in-Err.ensures.no_plan fills.plan fills.is_plan)
+
+pub returns-in-Err-clause-fine : goal.returns-in-Err-clause-fine
+returns-in-Err-clause-fine g c = λ no_fault fine. absurd (c.in-Err.ensures.no_plan fine.plan fine.is_plan)
+
+pub returns-in-Err-solve_plain-clause-cause : goal.returns-in-Err-solve_plain-clause-cause
+returns-in-Err-solve_plain-clause-cause g c =
+    cause-of IsSequential (texts c.args.words.now) (planned c.in-Ok.plan) c.in-Ok.ensures.is_plan (g.S.Shelf.files c.args.shelf.now) (reason_of c.in-Err-solve_plain.refusal) c.in-Err-solve_plain.ensures.cause
+
+pub returns-in-Ok-solve_plain-clause-files_refused : goal.returns-in-Ok-solve_plain-clause-files_refused
+returns-in-Ok-solve_plain-clause-files_refused g c = λ no_fault.
+    let plan = planned c.in-Ok.plan in
+    answers-not_refused IsSequential (texts c.args.words.now) plan c.in-Ok.ensures.is_plan c.in-Ok.ensures.one_plan
+    (c.files_have_one_way.ensures plan c.in-Ok.ensures.within.files) (g.S.Shelf.files c.args.shelf.now) c.in-Ok-solve_plain.text.items c.in-Ok-solve_plain.ensures.answers
+
+pub returns-in-Ok-solve_plain-clause-audit_full : goal.returns-in-Ok-solve_plain-clause-audit_full
+returns-in-Ok-solve_plain-clause-audit_full g c = λ no_fault.
+    let plan = planned c.in-Ok.plan in
+    answers-not_full IsSequential (texts c.args.words.now) plan c.in-Ok.ensures.is_plan c.in-Ok.ensures.one_plan
+    (c.files_have_one_way.ensures plan c.in-Ok.ensures.within.files) (g.S.Shelf.files c.args.shelf.now) c.in-Ok-solve_plain.text.items c.in-Ok-solve_plain.ensures.answers
+
+pub returns-in-Err-solve_plain-clause-files_refused : goal.returns-in-Err-solve_plain-clause-files_refused
+returns-in-Err-solve_plain-clause-files_refused g c = λ no_fault.
+    let plan = planned c.in-Ok.plan in
+    stops-refused IsSequential (texts c.args.words.now) plan c.in-Ok.ensures.is_plan c.in-Ok.ensures.one_plan
+    (c.files_have_one_way.ensures plan c.in-Ok.ensures.within.files) (g.S.Shelf.files c.args.shelf.now) (reason_of c.in-Err-solve_plain.refusal)
+    (λ name same. no_fault (c.in-Err-solve_plain.ensures.read_fault name same).0) c.in-Err-solve_plain.ensures.cause
+
+pub returns-in-Err-solve_plain-clause-audit_full : goal.returns-in-Err-solve_plain-clause-audit_full
+returns-in-Err-solve_plain-clause-audit_full g c = λ no_fault.
+    let plan = planned c.in-Ok.plan in
+    stops-full IsSequential (texts c.args.words.now) plan c.in-Ok.ensures.is_plan c.in-Ok.ensures.one_plan
+    (c.files_have_one_way.ensures plan c.in-Ok.ensures.within.files) (g.S.Shelf.files c.args.shelf.now) (reason_of c.in-Err-solve_plain.refusal)
+    (λ name same. no_fault (c.in-Err-solve_plain.ensures.read_fault name same).0) c.in-Err-solve_plain.ensures.cause
+
+pub returns-in-Err-solve_plain-clause-fine : goal.returns-in-Err-solve_plain-clause-fine
+returns-in-Err-solve_plain-clause-fine g c = λ no_fault fine.
+    let plan = planned c.in-Ok.plan in
+    inr (stops-fine IsSequential (texts c.args.words.now) plan c.in-Ok.ensures.is_plan c.in-Ok.ensures.one_plan
+    (c.files_have_one_way.ensures plan c.in-Ok.ensures.within.files) (g.S.Shelf.files c.args.shelf.now) (reason_of c.in-Err-solve_plain.refusal)
+    (λ name same. no_fault (c.in-Err-solve_plain.ensures.read_fault name same).0) c.in-Err-solve_plain.ensures.cause fine)

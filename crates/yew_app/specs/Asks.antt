@@ -1,0 +1,43 @@
+-- What the words ask of a search.
+use Rattle.std.specs.Prelude.{◌≡◌, ℕ, ◌≤◌, true, false}
+use Rattle.yew_log.specs.Groups.{Skeleton as Table, one, all, sequential, by_depth, by_budget, by_steal, in_order}
+use Rattle.yew_words.specs.declared.plan.Skeleton.{Skeleton}
+use Rattle.yew_words.specs.declared.plan.Skeleton.TheVariants.{Sequential, Depth, Budget, Steal, Ordered}
+use Rattle.yew_app.specs.declared.asked.Asked.{Asked}
+
+-- by how much a node that is cut off may better what is held: no words permit any gap yet
+abbrev pub permitted_gap : ℕ
+permitted_gap = 0
+
+-- by which table the groups of a log are judged
+abbrev pub table_of : Skeleton → Table
+table_of Sequential = sequential
+table_of (Depth depth) = by_depth depth
+table_of (Budget budget) = by_budget budget
+table_of (Steal false) = by_steal one
+table_of (Steal true) = by_steal all
+table_of (Ordered depth) = in_order depth
+
+-- one worker, which goes through the tree in preorder
+abbrev pub IsSequential : Skeleton → Type 0
+IsSequential skeleton = skeleton ≡ Sequential
+
+-- all skeletons but the one whose tasks are numbered
+abbrev pub IsUnordered : Skeleton → Type 0
+IsUnordered Sequential = Unit {0}
+IsUnordered (Depth depth) = Unit {0}
+IsUnordered (Budget budget) = Unit {0}
+IsUnordered (Steal chunk) = Unit {0}
+IsUnordered (Ordered depth) = ⊥
+
+-- the number of backtracks after which a task gives work away is at least 1
+abbrev pub HasBudget : Skeleton → Type 0
+HasBudget (Budget budget) = 1 ≤ budget
+HasBudget _ = Unit {0}
+
+-- what words can ask: 1 to 64 workers, and one alone in preorder
+pub record IsAskable (asked : Asked) : Type 0 where
+  pub some : 1 ≤ asked.workers
+  pub few : asked.workers ≤ 64
+  pub alone : IsSequential asked.skeleton → asked.workers ≡ 1
+  pub budget : HasBudget asked.skeleton

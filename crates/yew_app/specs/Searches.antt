@@ -1,0 +1,43 @@
+-- What was found, before its text is made.
+use Rattle.std.specs.Prelude.{◌≡◌, ℕ, List, [], ◌∷◌, map, Option}
+use Rattle.yew_kinds.specs.declared.kind.Kind.{Kind}
+use Rattle.yew_laws.specs.SearchTree.{SearchTree}
+use Rattle.yew_log.specs.declared.entry.Totals.{Totals}
+use Rattle.yew_log.specs.Totals.{no_totals, totals_sum}
+use Rattle.yew_walk.specs.LogViews.{LogView}
+use Rattle.yew_walk.specs.PlainSearch.{searched_tree, HasPlainLog}
+use Rattle.yew_walk.specs.declared.search.Found.{Found}
+use Rattle.yew_crew.specs.CrewSearch.{solution_of, IsCrewAnswer, HasCrewLogs}
+use Rattle.yew_app.specs.declared.asked.Asked.{Asked}
+use Rattle.yew_app.specs.Asks.{permitted_gap, table_of, IsSequential}
+use Rattle.yew_app.specs.Meanings.{Meaning, searched}
+use Rattle.yew_app.specs.Texts.{first_node}
+
+-- these totals, and others after them, all together
+abbrev pub totals_from : Totals → List Totals → Totals
+totals_from so_far [] = so_far
+totals_from so_far (next ∷ totals) = totals_from (totals_sum so_far next) totals
+
+-- the totals of all of these logs
+abbrev pub joint_totals : List Totals → Totals
+joint_totals totals = totals_from no_totals totals
+
+-- the solution is the first best node, and the one log is the sequential log
+pub record IsFirstFound {N R : Type 0} (t : SearchTree N) (view : R → LogView) (solution : Option N) (logs : List R) : Type 0 where
+  pub first : solution ≡ first_node t
+  pub log : HasPlainLog t view logs
+
+-- what was found in a tree: an answer of the kind that is right for it, whose fold is given, and the logs of the workers that were asked for. In preorder it is the first answer
+pub record IsFound {N S R : Type 0} (t : SearchTree N) (fold : S) (kind : Kind) (asked : Asked) (view : R → LogView) (found : Found S R) : Type 0 where
+  pub answer : IsCrewAnswer t fold kind found.answer
+  pub logs : HasCrewLogs (searched_tree t kind) permitted_gap (table_of asked.skeleton) asked.workers (map view found.logs.items) (solution_of t found.answer)
+  pub in_preorder : IsSequential asked.skeleton → IsFirstFound (searched_tree t kind) view (solution_of t found.answer) found.logs.items
+
+module _ {X N R : Type 0} (m : Meaning X N) (asked : Asked) (instance : X) (view : R → LogView) where
+  -- the right lines of a solution, and the logs of the search that found it
+  pub record IsAnswered (lines : List ℕ) (logs : List R) : Type 0 where
+    pub solution : Option N
+    pub lines_are : lines ≡ m.lines instance solution
+    pub right : m.IsRight instance lines
+    pub logs_are : HasCrewLogs (searched m instance) permitted_gap (table_of asked.skeleton) asked.workers (map view logs) solution
+    pub in_preorder : IsSequential asked.skeleton → IsFirstFound (searched m instance) view solution logs

@@ -1,0 +1,165 @@
+//! The top call: from the words, the files and the sinks to the status.
+
+ghost use Rattle.std.specs.Prelude.{◌≡◌, ◌≢◌, ◌≤◌, ◌⊎◌, true, List, ℕ, IfOk, IfErr, IsErrAnd, IsOk, Some};
+ghost use Rattle.yew_io.specs.Faults.{Rose};
+ghost use Rattle.yew_io.specs.Sink.{Appends, AppendsPrefix};
+ghost use Rattle.yew_words.specs.Word.{texts};
+ghost use Rattle.yew_app.specs.Asks.{IsSequential, IsUnordered};
+ghost use Rattle.yew_app.specs.Outcomes.{outside, WritesAnswer, IsRefused, SaysWords, SaysFiles, SaysAudit, IsComplete};
+ghost use Rattle.yew_app.specs.Reasons.{reason_of};
+ghost use Rattle.yew_app.specs.Refusals.{Reason, CannotRead, NoMemory, IsFullOrMemory, fault_line, status_of};
+ghost use Rattle.yew_app.specs.Runs.{Answers, RefusesWords, RefusesFiles, FillsAudit, IsFine, IsCause};
+
+use crate::crew::Crew;
+use crate::laws::files_have_one_way;
+use crate::plan::read_plan;
+use crate::refusal::{Refusal, write_fault_line};
+use crate::searcher::OneWorker;
+use crate::solve::{solve_by_crew, solve_plain};
+use std::alloc::Global;
+use std::sync::Wait;
+use std::thread::Threads;
+use yew_io::{Failed, Gate, Shelf, Sink, write_whole};
+
+/// The whole text that the words ask for of one worker, or why there is none.
+fn plain_text<'a, S: Shelf<'a>>(
+    alloc: Global,
+    words: &'a [String],
+    shelf: &mut S,
+) -> Result<Vec<u8>, Refusal<'a>>
+    ensures answers { IfOk result (λ text. Answers IsSequential (texts words.now) (S.files shelf.old) text.items) }
+    ensures cause { IfErr result (λ refusal. IsCause IsSequential (texts words.now) (S.files shelf.old) (reason_of refusal)) }
+    ensures read_fault { (name : List ℕ) → IsErrAnd result (λ refusal. reason_of refusal ≡ CannotRead name) →
+        Rose (S.faults shelf.old) (S.faults shelf.new) × (S.failed shelf.new ≡ true) × (S.name shelf.new ≡ Some name) }
+    ensures words_refused { (reason : Reason) → RefusesWords IsSequential (texts words.now) reason → IsErrAnd result (λ refusal. reason_of refusal ≡ reason) }
+    ensures files_refused { ¬ Rose (S.faults shelf.old) (S.faults shelf.new) → (reason : Reason) → RefusesFiles IsSequential (texts words.now) (S.files shelf.old) reason →
+        IsErrAnd result (λ refusal. (reason_of refusal ≡ reason) ⊎ (reason_of refusal ≡ NoMemory)) }
+    ensures audit_full { ¬ Rose (S.faults shelf.old) (S.faults shelf.new) → FillsAudit IsSequential (texts words.now) (S.files shelf.old) →
+        IsErrAnd result (λ refusal. IsFullOrMemory (reason_of refusal)) }
+    ensures fine { ¬ Rose (S.faults shelf.old) (S.faults shelf.new) → IsFine IsSequential (texts words.now) (S.files shelf.old) →
+        IsOk result ⊎ IsErrAnd result (λ refusal. reason_of refusal ≡ NoMemory) }
+    ensures files { S.files shelf.new ≡ S.files shelf.old }
+    ensures counted { S.faults shelf.old ≤ S.faults shelf.new }
+{
+    files_have_one_way();
+    let plan = match read_plan(&OneWorker, words) {
+        Ok(plan) => plan,
+        Err(refusal) => return Err(refusal),
+    };
+    match solve_plain(alloc, shelf, &plan) {
+        Ok(text) => Ok(text),
+        Err(refusal) => Err(refusal),
+    }
+}
+
+/// The whole text that the words ask for of a crew, or why there is none.
+fn crew_text<'a, S: Shelf<'a>, G: Gate, H: Threads + Wait + Sync>(
+    crew: &Crew<H, G>,
+    alloc: Global,
+    words: &'a [String],
+    shelf: &mut S,
+) -> Result<Vec<u8>, Refusal<'a>>
+    ensures answers { IfOk result (λ text. Answers IsUnordered (texts words.now) (S.files shelf.old) text.items) }
+    ensures cause { IfErr result (λ refusal. IsCause IsUnordered (texts words.now) (S.files shelf.old) (reason_of refusal)) }
+    ensures read_fault { (name : List ℕ) → IsErrAnd result (λ refusal. reason_of refusal ≡ CannotRead name) →
+        Rose (S.faults shelf.old) (S.faults shelf.new) × (S.failed shelf.new ≡ true) × (S.name shelf.new ≡ Some name) }
+    ensures words_refused { (reason : Reason) → RefusesWords IsUnordered (texts words.now) reason → IsErrAnd result (λ refusal. reason_of refusal ≡ reason) }
+    ensures files_refused { ¬ Rose (S.faults shelf.old) (S.faults shelf.new) → (reason : Reason) → RefusesFiles IsUnordered (texts words.now) (S.files shelf.old) reason →
+        IsErrAnd result (λ refusal. (reason_of refusal ≡ reason) ⊎ (reason_of refusal ≡ NoMemory)) }
+    ensures audit_full { ¬ Rose (S.faults shelf.old) (S.faults shelf.new) → FillsAudit IsUnordered (texts words.now) (S.files shelf.old) →
+        IsErrAnd result (λ refusal. IsFullOrMemory (reason_of refusal)) }
+    ensures fine { ¬ Rose (S.faults shelf.old) (S.faults shelf.new) → IsFine IsUnordered (texts words.now) (S.files shelf.old) →
+        IsOk result ⊎ IsErrAnd result (λ refusal. reason_of refusal ≡ NoMemory) }
+    ensures files { S.files shelf.new ≡ S.files shelf.old }
+    ensures counted { S.faults shelf.old ≤ S.faults shelf.new }
+{
+    files_have_one_way();
+    let plan = match read_plan(crew, words) {
+        Ok(plan) => plan,
+        Err(refusal) => return Err(refusal),
+    };
+    match solve_by_crew(crew, alloc, shelf, &plan) {
+        Ok(text) => Ok(text),
+        Err(refusal) => Err(refusal),
+    }
+}
+
+/// Ends a run that has no answer: writes the line of the refusal, as far as the sink takes it, and gives the status.
+fn refuse<E: Sink>(sink: &mut E, refusal: Refusal) -> u8
+    ensures status { result ≡ status_of (reason_of refusal.entry) }
+    ensures prefix { AppendsPrefix (E.written sink.old) (fault_line (reason_of refusal.entry)) (E.written sink.new) }
+    ensures whole { ¬ Rose (E.faults sink.old) (E.faults sink.new) → Appends (E.written sink.old) (fault_line (reason_of refusal.entry)) (E.written sink.new) }
+{
+    match write_fault_line(sink, refusal) {
+        Ok(()) => refusal.status(),
+        Err(Failed) => refusal.status(),
+    }
+}
+
+/// Does what the words ask for, by as many workers as they say.
+///
+/// The status is 0 where the whole text was written to `out`: a right answer to what the words ask of the files, with the
+/// report and the audit that they ask for, of the logs of all workers, or what they ask to be made, and nothing went to
+/// `err`. Otherwise one line on `err` says why: 1, a word offends, or the plan's skeleton is `ordered`; 2, the shelf failed
+/// at a file of the plan; 3, a file is not in its grammar; 4, a file or a number of it is past a limit, or the audit of a
+/// worker has no room for its next entry; 5, `out` failed, and has a prefix of the text; 6, memory ran out, which may come
+/// at any point. `out` receives nothing under the statuses 1, 2, 3, 4 and 6, and a fault of `err` changes nothing else.
+///
+/// Each worker passes the gate at each task that it takes. No answer depends on it.
+pub fn run<'a, H: Threads + Wait + Sync, S: Shelf<'a>, K: Sink, E: Sink, G: Gate>(
+    rt: &H,
+    alloc: Global,
+    words: &'a [String],
+    shelf: &mut S,
+    out: &mut K,
+    err: &mut E,
+    gate: &G,
+) -> u8
+    ensures answered { result ≡ 0 → WritesAnswer IsUnordered (texts words.now) (outside S.Shelf K.Sink E.Sink shelf.old out.old err.old) (outside S.Shelf K.Sink E.Sink shelf.new out.new err.new) }
+    ensures refused { result ≢ 0 → IsRefused IsUnordered (texts words.now) (outside S.Shelf K.Sink E.Sink shelf.old out.old err.old) (outside S.Shelf K.Sink E.Sink shelf.new out.new err.new) result }
+    ensures words_refused { SaysWords IsUnordered (texts words.now) (outside S.Shelf K.Sink E.Sink shelf.old out.old err.old) (outside S.Shelf K.Sink E.Sink shelf.new out.new err.new) result }
+    ensures files_refused { SaysFiles IsUnordered (texts words.now) (outside S.Shelf K.Sink E.Sink shelf.old out.old err.old) (outside S.Shelf K.Sink E.Sink shelf.new out.new err.new) result }
+    ensures audit_full { SaysAudit IsUnordered (texts words.now) (outside S.Shelf K.Sink E.Sink shelf.old out.old err.old) (outside S.Shelf K.Sink E.Sink shelf.new out.new err.new) result }
+    ensures complete { IsComplete IsUnordered (texts words.now) (outside S.Shelf K.Sink E.Sink shelf.old out.old err.old) (outside S.Shelf K.Sink E.Sink shelf.new out.new err.new) result }
+    ensures files { S.files shelf.new ≡ S.files shelf.old }
+{
+    match crew_text(&Crew { rt, gate }, alloc, words, shelf) {
+        Ok(text) => match write_whole(out, &text) {
+            Ok(()) => 0,
+            Err(Failed) => refuse(err, Refusal::WriteFault),
+        },
+        Err(refusal) => refuse(err, refusal),
+    }
+}
+
+/// Does what the words ask for, by one worker, and always returns.
+///
+/// The status is 0 where the whole text was written to `out`: a right answer to what the words ask of the files, with the
+/// report and the audit that they ask for, or what they ask to be made, and nothing went to `err`. Otherwise one line on
+/// `err` says why: 1, a word offends, or the plan has another skeleton than `sequential`; 2, the shelf failed at a file of
+/// the plan; 3, a file is not in its grammar; 4, a file or a number of it is past a limit, or the audit has no room for
+/// the search; 5, `out` failed, and has a prefix of the text; 6, memory ran out, which may come at any point. `out`
+/// receives nothing under the statuses 1, 2, 3, 4 and 6, and a fault of `err` changes nothing else.
+pub fn run_plain<'a, S: Shelf<'a>, K: Sink, E: Sink>(
+    alloc: Global,
+    words: &'a [String],
+    shelf: &mut S,
+    out: &mut K,
+    err: &mut E,
+) -> u8
+    ensures answered { result ≡ 0 → WritesAnswer IsSequential (texts words.now) (outside S.Shelf K.Sink E.Sink shelf.old out.old err.old) (outside S.Shelf K.Sink E.Sink shelf.new out.new err.new) }
+    ensures refused { result ≢ 0 → IsRefused IsSequential (texts words.now) (outside S.Shelf K.Sink E.Sink shelf.old out.old err.old) (outside S.Shelf K.Sink E.Sink shelf.new out.new err.new) result }
+    ensures words_refused { SaysWords IsSequential (texts words.now) (outside S.Shelf K.Sink E.Sink shelf.old out.old err.old) (outside S.Shelf K.Sink E.Sink shelf.new out.new err.new) result }
+    ensures files_refused { SaysFiles IsSequential (texts words.now) (outside S.Shelf K.Sink E.Sink shelf.old out.old err.old) (outside S.Shelf K.Sink E.Sink shelf.new out.new err.new) result }
+    ensures audit_full { SaysAudit IsSequential (texts words.now) (outside S.Shelf K.Sink E.Sink shelf.old out.old err.old) (outside S.Shelf K.Sink E.Sink shelf.new out.new err.new) result }
+    ensures complete { IsComplete IsSequential (texts words.now) (outside S.Shelf K.Sink E.Sink shelf.old out.old err.old) (outside S.Shelf K.Sink E.Sink shelf.new out.new err.new) result }
+    ensures files { S.files shelf.new ≡ S.files shelf.old }
+{
+    match plain_text(alloc, words, shelf) {
+        Ok(text) => match write_whole(out, &text) {
+            Ok(()) => 0,
+            Err(Failed) => refuse(err, Refusal::WriteFault),
+        },
+        Err(refusal) => refuse(err, refusal),
+    }
+}
