@@ -59,48 +59,31 @@ const CALM: Outside<'static> = Outside {
     room_to_say: 1 << 12,
 };
 
-/// The words of a line.
-fn words_of(alloc: Global, line: &str) -> Result<Vec<String>, Fail> {
-    let mut words = Vec::new(alloc);
-    for word in line.split(' ') {
-        if !word.is_empty() {
-            words.push(String::from_str(alloc, word)?)?;
-        }
-    }
-    Ok(words)
-}
-
-/// A shelf of these files.
-fn shelf_of(alloc: Global, files: &[(&str, &[u8])], outside: Outside) -> Result<MemoryShelf, Fail> {
-    let mut pairs = Vec::new(alloc);
-    for (name, bytes) in files {
-        pairs.push((String::from_str(alloc, name)?, bytes.to_vec(alloc)?))?;
-    }
-    Ok(MemoryShelf::new(pairs, outside.reads.to_vec(alloc)?))
-}
-
-/// The sink of the answer, and that of the faults.
-fn sinks_of(alloc: Global, outside: Outside) -> Result<(MemorySink, MemorySink), Fail> {
-    let most = outside.most.max(1);
-    let out = MemorySink::new(alloc, outside.room, most, outside.writes.to_vec(alloc)?)?;
-    let err = MemorySink::new(
-        alloc,
-        outside.room_to_say,
-        1 << 12,
-        outside.says.to_vec(alloc)?,
-    )?;
-    Ok((out, err))
-}
-
 fn run(
     alloc: Global,
     words: &str,
     files: &[(&str, &[u8])],
     outside: Outside,
 ) -> Result<Ended, Fail> {
-    let list = words_of(alloc, words)?;
-    let mut shelf = shelf_of(alloc, files, outside)?;
-    let (mut out, mut err) = sinks_of(alloc, outside)?;
+    let mut list = Vec::new(alloc);
+    for word in words.split(' ') {
+        if !word.is_empty() {
+            list.push(String::from_str(alloc, word)?)?;
+        }
+    }
+    let mut pairs = Vec::new(alloc);
+    for (name, bytes) in files {
+        pairs.push((String::from_str(alloc, name)?, bytes.to_vec(alloc)?))?;
+    }
+    let mut shelf = MemoryShelf::new(pairs, outside.reads.to_vec(alloc)?);
+    let most = outside.most.max(1);
+    let mut out = MemorySink::new(alloc, outside.room, most, outside.writes.to_vec(alloc)?)?;
+    let mut err = MemorySink::new(
+        alloc,
+        outside.room_to_say,
+        1 << 12,
+        outside.says.to_vec(alloc)?,
+    )?;
     let status = run_plain(alloc, &list, &mut shelf, &mut out, &mut err);
     Ok(Ended {
         status,
