@@ -1,19 +1,27 @@
 //! Whole runs over files and sinks in memory.
 
+mod audits;
+mod crews;
 mod faults;
 mod graphs;
+mod hostile;
 mod knapsack;
 mod logs;
 mod made;
 mod outcomes;
 mod semigroups;
 mod tours;
+mod vectors;
+mod worked;
 
 use crate::run_plain;
 use std::alloc::Global;
+use std::process::Abort;
+use std::sync::Wait;
 use std::test::Fail;
-use yew_io::{MemoryShelf, MemorySink};
-use yew_lines::push_text;
+use std::thread::Threads;
+use yew_io::{Gate, MemoryShelf, MemorySink, OpenGate};
+use yew_lines::{push_line_end, push_text};
 
 const FOUR: &[u8] = b"4 10\n10 5\n40 4\n30 6\n50 3\n";
 
@@ -59,37 +67,113 @@ const CALM: Outside<'static> = Outside {
     room_to_say: 1 << 12,
 };
 
-fn run(
-    alloc: Global,
-    words: &str,
-    files: &[(&str, &[u8])],
-    outside: Outside,
-) -> Result<Ended, Fail> {
-    let mut list = Vec::new(alloc);
-    for word in words.split(' ') {
+/// The words of a line.
+fn words_of(alloc: Global, line: &str) -> Result<Vec<String>, Fail> {
+    let mut words = Vec::new(alloc);
+    for word in line.split(' ') {
         if !word.is_empty() {
-            list.push(String::from_str(alloc, word)?)?;
+            words.push(String::from_str(alloc, word)?)?;
         }
     }
+    Ok(words)
+}
+
+/// The files, and copies of their bytes.
+fn pairs_of(alloc: Global, files: &[(&str, &[u8])]) -> Result<Vec<(String, Vec<u8>)>, Fail> {
     let mut pairs = Vec::new(alloc);
     for (name, bytes) in files {
         pairs.push((String::from_str(alloc, name)?, bytes.to_vec(alloc)?))?;
     }
-    let mut shelf = MemoryShelf::new(pairs, outside.reads.to_vec(alloc)?);
-    let most = outside.most.max(1);
-    let mut out = MemorySink::new(alloc, outside.room, most, outside.writes.to_vec(alloc)?)?;
-    let mut err = MemorySink::new(
-        alloc,
-        outside.room_to_say,
-        1 << 12,
-        outside.says.to_vec(alloc)?,
-    )?;
-    let status = run_plain(alloc, &list, &mut shelf, &mut out, &mut err);
+    Ok(pairs)
+}
+
+/// The sink of the answer.
+fn answers(alloc: Global, outside: Outside) -> Result<MemorySink, Fail> {
+    let writes = outside.writes.to_vec(alloc)?;
+    Ok(MemorySink::new(alloc, outside.room, outside.most.max(1), writes)?)
+}
+
+/// The sink of the line of a refusal.
+fn refusals(alloc: Global, outside: Outside) -> Result<MemorySink, Fail> {
+    let says = outside.says.to_vec(alloc)?;
+    Ok(MemorySink::new(alloc, outside.room_to_say, 1 << 12, says)?)
+}
+
+/// Runs a line of words with one worker.
+fn run(
+    alloc: Global,
+    line: &str,
+    files: &[(&str, &[u8])],
+    outside: Outside,
+) -> Result<Ended, Fail> {
+    let words = words_of(alloc, line)?;
+    let mut shelf = MemoryShelf::new(pairs_of(alloc, files)?, outside.reads.to_vec(alloc)?);
+    let mut out = answers(alloc, outside)?;
+    let mut err = refusals(alloc, outside)?;
+    let status = run_plain(alloc, &words, &mut shelf, &mut out, &mut err);
     Ok(Ended {
         status,
         out: out.written().to_vec(alloc)?,
         err: err.written().to_vec(alloc)?,
     })
+}
+
+/// Runs a line of words with as many workers as they say, who pass this gate.
+fn run_past<R: Threads + Wait + Sync, G: Gate>(
+    rt: &R,
+    alloc: Global,
+    line: &str,
+    files: &[(&str, &[u8])],
+    outside: Outside,
+    gate: &G,
+) -> Result<Ended, Fail> {
+    let words = words_of(alloc, line)?;
+    let mut shelf = MemoryShelf::new(pairs_of(alloc, files)?, outside.reads.to_vec(alloc)?);
+    let mut out = answers(alloc, outside)?;
+    let mut err = refusals(alloc, outside)?;
+    let status = crate::run(rt, alloc, &words, &mut shelf, &mut out, &mut err, gate);
+    Ok(Ended {
+        status,
+        out: out.written().to_vec(alloc)?,
+        err: err.written().to_vec(alloc)?,
+    })
+}
+
+/// Runs a line of words with as many workers as they say.
+fn run_crew<R: Threads + Wait + Sync>(
+    rt: &R,
+    alloc: Global,
+    line: &str,
+    files: &[(&str, &[u8])],
+    outside: Outside,
+) -> Result<Ended, Fail> {
+    run_past(rt, alloc, line, files, outside, &OpenGate)
+}
+
+/// Checks what a run left.
+fn expect(rt: &impl Abort, line: &str, ended: &Ended, status: u8, out: &[u8], err: &str) {
+    assert_eq!(rt; ended.status, status, "{line}");
+    assert_eq!(rt; ended.out.as_slice(), out, "{line}");
+    assert_eq!(rt; ended.err.as_slice(), err.as_bytes(), "{line}");
+}
+
+/// The parts one after another, as a line of words.
+fn spelled(alloc: Global, parts: &[&str]) -> Result<String, Fail> {
+    let mut line = String::new(alloc);
+    for part in parts {
+        line.push_str(part)?;
+    }
+    Ok(line)
+}
+
+/// The lines, each with its end.
+fn lines(alloc: Global, lines: &[&str]) -> Result<Vec<u8>, Fail> {
+    let mut text = Vec::new(alloc);
+    for line in lines {
+        push_text(&mut text, line.as_bytes())?;
+        push_line_end(&mut text)?;
+    }
+    Ok(text)
 }
 
 /// The parts one after another.

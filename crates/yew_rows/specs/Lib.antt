@@ -1,3 +1,4 @@
+pub mod IncreasingTrees
 pub mod Logs
 pub mod Trees
 pub mod WrongLogs

@@ -1,3 +1,11 @@
+mod increasing;
+mod judged;
+mod judging;
+mod meeting;
+mod refusing;
+mod totals;
+mod trees;
+
 ghost use Rattle.std.specs.Prelude.{◌≡◌, ◌≤◌, [], IfOk};
 ghost use Rattle.yew_laws.specs.SearchTree.{IsTask};
 ghost use Rattle.yew_crew.specs.Stations.{IsCoord};
