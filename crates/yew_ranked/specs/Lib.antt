@@ -2,4 +2,9 @@ pub mod ClaimRule
 pub mod ClaimSeats
 pub mod ClaimViews
 pub mod Frontier
+pub mod FrontierWalk
+pub mod OrderedSearch
 pub mod RankedSearch
+pub mod Stations
+pub mod Tasks
+pub mod Whole

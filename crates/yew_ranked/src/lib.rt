@@ -10,8 +10,11 @@ mod claim_steps;
 mod claim_view;
 mod claims;
 mod laws;
+mod station;
+mod task;
 #[cfg(test)]
 mod tests;
 
 pub use claims::{ClaimSeat, Claims};
+pub use task::RankedTask;
 pub use laws::{answers_gather, frontier_has_the_items, items_rise, ranked_keys_find_the_first};
