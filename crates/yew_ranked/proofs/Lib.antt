@@ -8,3 +8,6 @@ pub mod ItemPlaces
 pub mod PathOrder
 pub mod Preorder
 pub mod RankedAnswers
+pub mod TaskWalks
+pub mod WorkerSteps
+pub mod TaskNodes

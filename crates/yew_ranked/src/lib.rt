@@ -14,6 +14,7 @@ mod station;
 mod task;
 #[cfg(test)]
 mod tests;
+mod worker;
 
 pub use claims::{ClaimSeat, Claims};
 pub use task::RankedTask;
