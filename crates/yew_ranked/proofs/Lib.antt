@@ -8,3 +8,7 @@ pub mod ItemPlaces
 pub mod PathOrder
 pub mod Preorder
 pub mod RankedAnswers
+pub mod BrokenFronts
+pub mod FrontierBlocks
+pub mod FrontierFull
+pub mod FrontierLawful
