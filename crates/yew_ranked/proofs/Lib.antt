@@ -11,3 +11,7 @@ pub mod RankedAnswers
 pub mod TaskWalks
 pub mod WorkerSteps
 pub mod TaskNodes
+pub mod BrokenFronts
+pub mod FrontierBlocks
+pub mod FrontierFull
+pub mod FrontierLawful
