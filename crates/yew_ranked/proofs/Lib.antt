@@ -15,3 +15,8 @@ pub mod BrokenFronts
 pub mod FrontierBlocks
 pub mod FrontierFull
 pub mod FrontierLawful
+pub mod JoinedParts
+pub mod Sharing
+pub mod AllEnds
+pub mod SettledParts
+pub mod BegunSearch

@@ -43,6 +43,13 @@ pub(crate) fn walk_frontier<P: Problem, T: Tally<P::Node>, R: Recorder>(
     ensures fault { IfErr result (IsFrontierFault (search_tree P.Problem problem.now) depth
         (log_view (R.told log.old) (R.totals log.old) (R.number log.old)) (log_view (R.told log.new) (R.totals log.new) (R.number log.new))) }
 {
-    let _ = (alloc, problem, tally, depth, best, seat, hand, log);
+    let _ = alloc;
+    let _ = problem;
+    let _ = tally;
+    let _ = depth;
+    let _ = best;
+    let _ = &seat;
+    let _ = &hand;
+    let _ = &log;
     Err(SearchFault::Memory)
 }
