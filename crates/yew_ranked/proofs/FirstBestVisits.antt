@@ -24,12 +24,12 @@ use Rattle.yew_ranked.proofs.PathOrder.{before-not_itself, before-not_both, befo
 use Rattle.yew_ranked.proofs.Preorder.{IsFrom, worth-at_most, best-from_first, best-some_worth}
 
 -- a node that a worth or a bound is of
-record AtNode {N : Type 0} (found : Option N) (of : N → ℕ) (value : ℕ) : Type 0 where
+pub record AtNode {N : Type 0} (found : Option N) (of : N → ℕ) (value : ℕ) : Type 0 where
   pub node : N
   pub is : found ≡ Some node
   pub value_is : of node ≡ value
 
-at-node : {N : Type 0} (found : Option N) (of : N → ℕ) (value : ℕ) → option_map of found ≡ Some value → AtNode found of value
+pub at-node : {N : Type 0} (found : Option N) (of : N → ℕ) (value : ℕ) → option_map of found ≡ Some value → AtNode found of value
 at-node None of value e = absurd (none-some value e)
 at-node (Some n) of value e = record { node = n; is = refl; value_is = same_Some (of n) value e }
 
@@ -87,7 +87,7 @@ module _ {N : Type 0} (t : SearchTree N) {sound : N → Type 0} (ranked : IsRank
         above = all-weighs is_path is_path-same is_path-is (AtOrBelow c.path) (below t c.path) path (inside c (0, omega arith, refl)) (omega arith);
       }
 
-  node-sound : (path : List ℕ) (n : N) → at_path t path ≡ Some n → sound n
+  pub node-sound : (path : List ℕ) (n : N) → at_path t path ≡ Some n → sound n
   node-sound path n at = all-at (λ (m : Member N). sound m.node) (tree t.children t.rank t.root) (record { path = path; node = n }) (tree-sound ranked t.root root) (tree-contains ranked path t.root n root at)
 
   -- a path of the tree is one of its paths
@@ -98,7 +98,7 @@ module _ {N : Type 0} (t : SearchTree N) {sound : N → Type 0} (ranked : IsRank
       (Contains-map (λ (m : Member N). record { path = m.path; node = m.node }) ms (record { path = path; node = n }) (tree-contains ranked path t.root n root at))
 
   -- what lies below a cut lies at or below its path
-  cut-inside : (path : List ℕ) (q : N) → at_path t path ≡ Some q → AllByRecursion (AtOrBelow path) (below t path)
+  pub cut-inside : (path : List ℕ) (q : N) → at_path t path ≡ Some q → AllByRecursion (AtOrBelow path) (below t path)
   cut-inside path q at = (ranked_induction ranked (Once t ranked) (once-step t ranked) q (node-sound path q at) path at).inside
 
   module _ (bounded : IsBounded sound t.children t.worth t.bound) {visits cuts : List RankedJudgement} (is : IsRankedSearch t visits cuts) where

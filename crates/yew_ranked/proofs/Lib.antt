@@ -8,3 +8,8 @@ pub mod ItemPlaces
 pub mod PathOrder
 pub mod Preorder
 pub mod RankedAnswers
+pub mod ClaimedPlaces
+pub mod RankedWalks
+pub mod HeardOthers
+pub mod TaskRanks
+pub mod WorkerVisits
