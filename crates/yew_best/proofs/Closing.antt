@@ -5,8 +5,8 @@ use mathlib.Core.Option.{some, some-injective, some-ne-none}
 use lib.ListN.{get_elem?}
 use Rattle.atomic_table.specs.Table.{State, Final, Seen}
 use Rattle.yew_best.specs.declared.view.View.{View}
-use Rattle.yew_best.specs.Rule.{IsOffered, Keeps, Closes}
-use Rattle.yew_best.proofs.Growth.{All-weaken, all_offered}
+use Rattle.yew_best.specs.Rule.{IsOffered, IsOfferedElse, Keeps, Closes}
+use Rattle.yew_best.proofs.Growth.{All-weaken, none_else, all_offered}
 
 index_is : (words : List ℕ) (i n : ℕ) → get_elem? words i ≡ some n → slice_index words i ≡ n
 index_is [] i n e = absurd (some-ne-none n (sym e))
@@ -25,4 +25,5 @@ closes seats seat word v words slots whole last at =
       offered_below = fits.offered_below;
       cause = ⊎_elim inl (λ o. inr (all _ o)) is.word_cause;
       read_cause = All-weaken (λ x. (x ≡ 0) ⊎ IsOffered s.views x) (λ x. (x ≡ 0) ⊎ Contains v.offered x) v.read (λ x h. ⊎_elim inl (λ o. inr (all x o)) h) fits.read_cause;
+      heard_cause = All-weaken (λ x. (x ≡ 0) ⊎ IsOfferedElse s.views seat x) (λ x. x ≡ 0) v.heard (λ x h. ⊎_elim (λ e. e) (λ o. absurd (none_else seats n s.views seat v is there whole x o)) h) fits.heard_cause;
     }

@@ -13,17 +13,18 @@ use Rattle.yew_laws.proofs.Views.{at_set, set_here, total_set}
 use Rattle.yew_best.specs.declared.view.View.{View}
 use Rattle.yew_best.specs.Views.{has_read, has_offered}
 use Rattle.yew_best.specs.Rule.{IsOffered, Fits, IsBest, Keeps, Tells}
-use Rattle.yew_best.proofs.Growth.{All-single, Contains-last, Grows, grows_set, fits_later, cause_later, tells}
+use Rattle.yew_best.proofs.Growth.{All-single, Contains-last, Stays, grows-stays, stays_set, fits-stays, fits-moved, cause_later, tells}
+use Rattle.yew_best.proofs.Heard.{heard_after-cause}
 
 -- one seat's view has changed and the word has not fallen
 changed : (seats n m : ℕ) (views : List View) (seat : ℕ) (v w : View) → IsBest seats n views → get_elem? views seat ≡ some v
     → w.share ≡ v.share → n ≤ m → ((x : ℕ) → Contains v.offered x → Contains w.offered x)
-    → (m ≡ 0) ⊎ IsOffered (set views seat w) m → Fits seats (set views seat w) m w → IsBest seats m (set views seat w)
+    → (m ≡ 0) ⊎ IsOffered (set views seat w) m → Fits seats (set views seat w) m seat w → IsBest seats m (set views seat w)
 changed seats n m views seat v w is at share up more cause fits = record {
   shares = (let t = total_set (λ (u : View). u.share) views seat v w at in let s = is.shares in omega (arith, t, s, share));
   word_cause = cause;
-  each = λ j u e. ⊎_elim (λ (t : (j ≡ seat) × (w ≡ u)). subst (λ (k : View). Fits seats (set views seat w) m k) t.1 fits)
-      (λ (t : (j ≢ seat) × (get_elem? views j ≡ some u)). fits_later seats views (set views seat w) n m u (grows_set views seat v w at more) up (is.each j u t.1))
+  each = λ j u e. ⊎_elim (λ (t : (j ≡ seat) × (w ≡ u)). fits-moved seats (set views seat w) m w u seat j t.0 t.1 fits)
+      (λ (t : (j ≢ seat) × (get_elem? views j ≡ some u)). fits-stays seats views (set views seat w) n m j u (stays_set views seat v w at more) up (is.each j u t.1))
       (at_set views seat j w u e);
 }
 
@@ -31,14 +32,15 @@ changed seats n m views seat v w is at share up more cause fits = record {
 read_more : (seats n : ℕ) (views : List View) (seat : ℕ) (v : View) → 0 < v.share → IsBest seats n views → get_elem? views seat ≡ some v → IsBest seats n (set views seat (has_read v n))
 read_more seats n views seat v some_share is at =
     let w = has_read v n in let later = set views seat w in
-    let grows : Grows views later = grows_set views seat v w at (λ x h. h) in
-    let was = fits_later seats views later n n v grows (le_refl n) (is.each seat v at) in
-    let cause : (n ≡ 0) ⊎ IsOffered later n = cause_later n views later grows is.word_cause in
+    let stays : Stays views later = stays_set views seat v w at (λ x h. h) in
+    let was = fits-stays seats views later n n seat v stays (le_refl n) (is.each seat v at) in
+    let cause : (n ≡ 0) ⊎ IsOffered later n = cause_later n views later (grows-stays views later stays) is.word_cause in
     changed seats n n views seat v w is at refl (le_refl n) (λ x h. h) cause record {
       whole = was.whole;
       read_below = All-append (λ x. x ≤ n) v.read (n ∷ []) was.read_below (All-single (λ x. x ≤ n) n (le_refl n));
       offered_below = was.offered_below;
       read_cause = All-append (λ x. (x ≡ 0) ⊎ IsOffered later x) v.read (n ∷ []) was.read_cause (All-single (λ x. (x ≡ 0) ⊎ IsOffered later x) n cause);
+      heard_cause = heard_after-cause later seat w n v.heard (set_here views seat w v at) cause was.heard_cause;
       idle = λ none. absurd (omega arith);
     }
 
@@ -48,17 +50,18 @@ offered_more : (seats n m key : ℕ) (views : List View) (seat : ℕ) (v : View)
 offered_more seats n m key views seat v some_share is at up over which =
     let w = has_offered v key in let later = set views seat w in
     let more : (x : ℕ) → Contains v.offered x → Contains w.offered x = λ x h. Contains-append_left v.offered (key ∷ []) x h in
-    let grows : Grows views later = grows_set views seat v w at more in
-    let was = fits_later seats views later n m v grows up (is.each seat v at) in
-    let here : IsOffered later key = (seat, w, set_here views seat w v at, Contains-last v.offered key) in
+    let stays : Stays views later = stays_set views seat v w at more in
+    let was = fits-stays seats views later n m seat v stays up (is.each seat v at) in
+    let here : IsOffered later key = (seat, (w, set_here views seat w v at, Contains-last v.offered key)) in
     let cause : (m ≡ 0) ⊎ IsOffered later m =
-    ⊎_elim (λ (e : m ≡ n). subst (λ (k : ℕ). (k ≡ 0) ⊎ IsOffered later k) (sym e) (cause_later n views later grows is.word_cause))
+    ⊎_elim (λ (e : m ≡ n). subst (λ (k : ℕ). (k ≡ 0) ⊎ IsOffered later k) (sym e) (cause_later n views later (grows-stays views later stays) is.word_cause))
     (λ (e : m ≡ key). inr (subst (λ (k : ℕ). IsOffered later k) (sym e) here)) which in
     changed seats n m views seat v w is at refl up more cause record {
       whole = was.whole;
       read_below = was.read_below;
       offered_below = All-append (λ x. x ≤ m) v.offered (key ∷ []) was.offered_below (All-single (λ x. x ≤ m) key over);
       read_cause = was.read_cause;
+      heard_cause = was.heard_cause;
       idle = λ none. absurd (omega arith);
     }
 

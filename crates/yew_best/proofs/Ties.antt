@@ -37,3 +37,6 @@ closed_cause mine v s word view is = subst (λ (t : SeatView). (word ≡ 0) ⊎ 
 
 pub closed_reads : (mine : TableId) (v : View) (s : SeatView) (word : ℕ) → seat_view mine v ≡ s → Closes v word → All (λ x. (x ≡ 0) ⊎ Contains s.offered x) s.read
 closed_reads mine v s word view is = subst (λ (t : SeatView). All (λ x. (x ≡ 0) ⊎ Contains t.offered x) t.read) view is.read_cause
+
+pub closed_heard : (mine : TableId) (v : View) (s : SeatView) (word : ℕ) → seat_view mine v ≡ s → Closes v word → All (λ x. x ≡ 0) s.heard
+closed_heard mine v s word view is = subst (λ (t : SeatView). All (λ x. x ≡ 0) t.heard) view is.heard_cause

@@ -1,5 +1,6 @@
 //! The shared word and its seats.
-ghost use Rattle.std.specs.Prelude.{◌≡◌, ◌+◌, ◌-◌, ◌<◌, ◌≤◌, ◌⊎◌, [], ◌∷◌, ◌++◌, All, Contains, IfOk};
+ghost use Rattle.std.specs.Prelude.{◌≡◌, ◌-◌, ◌<◌, ◌≤◌, ◌⊎◌, [], ◌∷◌, ◌++◌, All, Contains, IfOk};
+ghost use Rattle.yew_best.specs.Seats.{has_read, joined_seat};
 
 use crate::steps::{Compares, Key, OneOff, Raises, Reads, Rises, Together};
 use crate::view::View;
@@ -35,7 +36,8 @@ impl Model for Best {
 }
 
 /// A worker's place at the word, which takes no bytes. Contracts see the word that it is of, its share, which is at
-/// least 1, and the values that it has read and offered, the oldest first.
+/// least 1, and the values that it has read, offered and heard, the oldest first. It has heard those values that it
+/// read without having offered them before.
 #[derive(Drop)]
 pub struct BestSeat {
     seat: Seat<(), View>,
@@ -60,17 +62,18 @@ impl Best {
     pub fn new(alloc: Global, seats: u32) -> Result<(Best, BestSeat), Memory>
         requires { 0 < seats }
         ensures best { IfOk result (λ r. r.0.seats ≡ seats) }
-        ensures seat { IfOk result (λ r. r.1 ≡ record { best = r.0; share = seats; read = []; offered = [] }) }
+        ensures seat { IfOk result (λ r. r.1 ≡ record { best = r.0; share = seats; read = []; offered = []; heard = [] }) }
     {
         let (table, seat) = Table::of_words(alloc, &[0; WORDS], &seats)?;
         Ok((Best { table }, BestSeat { seat }))
     }
 
-    /// Loads the word, which is at least all that the seat has read and offered.
+    /// Loads the word, which is at least all that the seat has read and offered. Where the seat had not offered it, the
+    /// seat has heard it: it is 0, or another seat has offered it before.
     #[inline]
     pub fn read(&self, seat: &mut BestSeat) -> u64
         requires { seat.old.best ≡ self.now }
-        ensures read { seat.new ≡ record seat.old { read = seat.old.read ++ result ∷ [] } }
+        ensures read { seat.new ≡ has_read seat.old result }
         ensures at_least_read { All (λ x. x ≤ result) seat.old.read }
         ensures at_least_offered { All (λ x. x ≤ result) seat.old.offered }
 
@@ -126,31 +129,33 @@ impl Best {
             .fetch_max::<Raises>(&mut seat.seat, PLACE, key)
     }
 
-    /// Splits a seat off, with a share of 1 of the seat's. It has read what the seat has read, and offered nothing.
+    /// Splits a seat off, with a share of 1 of the seat's. It has read what the seat has read, and has offered and heard
+    /// nothing.
     pub fn split(&self, seat: &mut BestSeat) -> BestSeat
         requires best { seat.old.best ≡ self.now }
         requires share { 1 < seat.old.share }
         ensures seat { seat.new ≡ record seat.old { share = seat.old.share - 1 } }
-        ensures new { result ≡ record seat.old { share = 1; offered = [] } }
+        ensures new { result ≡ record seat.old { share = 1; offered = []; heard = [] } }
     {
         let shared = &self.table.shared;
         let other = shared.split_seat::<OneOff>(&mut seat.seat);
         BestSeat { seat: other }
     }
 
-    /// Takes another seat of the same word into this one: the lists are joined and the shares are added.
+    /// Takes another seat of the same word into this one: the lists are joined and the shares are added. Of what each
+    /// had heard, that stays which the other had not offered.
     pub fn join(&self, seat: &mut BestSeat, other: BestSeat)
         requires best { seat.old.best ≡ self.now }
         requires other { other.best ≡ self.now }
-        ensures { seat.new ≡ record seat.old { share = seat.old.share + other.share; read = seat.old.read ++ other.read; offered = seat.old.offered ++ other.offered } }
+        ensures { seat.new ≡ joined_seat seat.old other }
     {
         let BestSeat { seat: other } = other;
         let shared = &self.table.shared;
         shared.join_seat::<Together>(&mut seat.seat, other);
     }
 
-    /// Ends the word with the seat that has the whole share, and so every value that was read or offered. Answers the
-    /// word, the greatest value offered, or 0.
+    /// Ends the word with the seat that has the whole share, and so every value that was read or offered, and has heard
+    /// nothing but 0. Answers the word, the greatest value offered, or 0.
     pub fn close(self, seat: BestSeat) -> u64
         requires best { seat.best ≡ self }
         requires whole { seat.share ≡ self.seats }
@@ -158,6 +163,7 @@ impl Best {
         ensures at_least_offered { All (λ x. x ≤ result) seat.offered }
         ensures offered { (result ≡ 0) ⊎ Contains seat.offered result }
         ensures reads_offered { All (λ x. (x ≡ 0) ⊎ Contains seat.offered x) seat.read }
+        ensures heard { All (λ x. x ≡ 0) seat.heard }
     {
         let Best { table } = self;
         let BestSeat { seat } = seat;

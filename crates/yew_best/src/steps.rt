@@ -5,7 +5,8 @@ use crate::view::View;
 use atomic_table::{Join, Play, Split, TableRule};
 use std::marker::{Brand, PhantomData};
 
-/// Between any two steps the word is at least all that was read and offered, and was itself offered or is 0.
+/// Between any two steps the word is at least all that was read and offered, and was itself offered or is 0. What a
+/// seat read before it had offered it is 0 or was offered by another seat.
 pub struct Rises;
 
 impl TableRule<(), View, u32> for Rises {
@@ -15,7 +16,7 @@ impl TableRule<(), View, u32> for Rises {
 
     ghost holds = { λ seats s. Keeps seats s.words s.views };
 
-    ghost first = { λ seats. view_of seats seats [] [] };
+    ghost first = { λ seats. view_of seats seats [] [] [] };
 }
 
 /// A load, which is read.
@@ -82,5 +83,5 @@ impl Join<View> for Together {
 
     ghost both = { both_of };
 
-    ghost spent = { view_of 0 0 [] [] };
+    ghost spent = { view_of 0 0 [] [] [] };
 }

@@ -8,4 +8,6 @@ pub struct View {
     pub share: u64,
     pub read: LinkedList<u64>,
     pub offered: LinkedList<u64>,
+    /// The values that were read and had not been offered by this seat before.
+    pub heard: LinkedList<u64>,
 }

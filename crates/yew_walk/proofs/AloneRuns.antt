@@ -54,7 +54,7 @@ pub record IsFresh {N Sum : Type 0} (none : Sum) (first : Scene N Sum (Unit {0})
   pub first_worker : first.log.number ≡ 1
 
 -- the scene in which one worker begins
-pub fresh-scene : {N Sum : Type 0} {none : Sum} {best : BestId} {seat : SeatView} {hand : Hand Sum} {sent : List (Task N)} {answers : Option (List Bool)} {log : LogView} → seat ≡ record { best = best; share = 1; read = []; offered = [] } → best.seats ≡ 1 → hand.holds ≡ false → hand.sum ≡ none → IfSome log.told (λ notes. notes ≡ []) → log.totals ≡ no_totals → log.number ≡ 1 → IsFresh none (scene seat hand tt sent answers log)
+pub fresh-scene : {N Sum : Type 0} {none : Sum} {best : BestId} {seat : SeatView} {hand : Hand Sum} {sent : List (Task N)} {answers : Option (List Bool)} {log : LogView} → seat ≡ record { best = best; share = 1; read = []; offered = []; heard = [] } → best.seats ≡ 1 → hand.holds ≡ false → hand.sum ≡ none → IfSome log.told (λ notes. notes ≡ []) → log.totals ≡ no_totals → log.number ≡ 1 → IsFresh none (scene seat hand tt sent answers log)
 fresh-scene seat_is one_seat holds_none sum_is none_told no_totals_yet first_worker = record {
   none_offered = ap (λ (s : SeatView). s.offered) seat_is;
   whole_share = ap (λ (s : SeatView). s.share) seat_is ∙ sym one_seat ∙ ap (λ (s : SeatView). s.best.seats) (sym seat_is);

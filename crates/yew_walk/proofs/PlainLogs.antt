@@ -3,7 +3,7 @@ use Rattle.std.proofs.Common.{◌≡◌, ℕ, ◌≤◌, ◌⊎◌, inl, inr, Li
 use Rattle.std.specs.Prelude.{All, Contains}
 use Rattle.std.specs.List.{AllByRecursion}
 use Rattle.std.proofs.lemmas.List.Elements.{All-contains, All-from_recursion, recursion_from_All}
-use Rattle.yew_best.specs.Seats.{SeatView}
+use Rattle.yew_best.specs.Seats.{SeatView, has_read}
 use Rattle.yew_laws.specs.SearchTree.{SearchTree}
 use Rattle.yew_laws.specs.Tree.{IsRanked}
 use Rattle.yew_laws.proofs.Members.{AllByRecursion-weaker}
@@ -20,7 +20,7 @@ use Rattle.yew_log.proofs.Places.{AtEach-weaker}
 use Rattle.yew_log.proofs.SeqUnique.{seq_log-unique}
 use Rattle.yew_walk.specs.declared.keying.Keying.{Keying}
 use Rattle.yew_walk.specs.declared.keying.Keying.TheVariants.{Plain}
-use Rattle.yew_walk.specs.Seats.{IsRead, SeatGoes, has_read, has_offered}
+use Rattle.yew_walk.specs.Seats.{IsRead, SeatGoes, has_offered}
 
 maximum-least : (ns : List ℕ) (w : ℕ) → AllByRecursion (λ n. n ≤ w) ns → maximum ns ≤ w
 maximum-least [] w a = omega arith

@@ -3,7 +3,7 @@ use Rattle.std.proofs.Common.{◌≡◌, ℕ, ◌≤◌, List, [], ◌∷◌, �
 use Rattle.std.specs.Prelude.{Contains}
 use Rattle.std.specs.List.{AllByRecursion}
 use Rattle.std.proofs.lemmas.List.Elements.{All-contains, Contains-append_left, Contains-append_right}
-use Rattle.yew_best.specs.Seats.{SeatView}
+use Rattle.yew_best.specs.Seats.{SeatView, has_read}
 use Rattle.yew_laws.specs.SearchTree.{SearchTree}
 use Rattle.yew_laws.proofs.Members.{AllByRecursion-weaker, Contains-head}
 use Rattle.yew_log.specs.HeldValues.{IsLater}
@@ -11,7 +11,7 @@ use Rattle.yew_walk.proofs.KeyOrder.{held_of-grows, held_of-key_of}
 use Rattle.yew_log.specs.Notes.{Note, taken, visited, cut, spawned, handed, ended, Judgement, values, held_values, visits, judgements}
 use Rattle.yew_walk.specs.declared.keying.Keying.{Keying}
 use Rattle.yew_walk.specs.Keys.{key_of, held_of}
-use Rattle.yew_walk.specs.Seats.{has_read, has_offered, IsRead, SeatGoes}
+use Rattle.yew_walk.specs.Seats.{has_offered, IsRead, SeatGoes}
 
 -- the seat stays at its word, with its share
 pub record StaysAt (a b : SeatView) : Type 0 where

@@ -4,7 +4,7 @@ use Rattle.std.proofs.lemmas.Bool.Decides.{nat_tests}
 use mathlib.Core.List.{reverse}
 use Rattle.std.specs.List.{AllByRecursion}
 use Rattle.std.proofs.lemmas.List.{reverse-append}
-use Rattle.yew_best.specs.Seats.{SeatView}
+use Rattle.yew_best.specs.Seats.{SeatView, has_read}
 use Rattle.yew_laws.specs.SearchTree.{SearchTree}
 use Rattle.yew_laws.specs.Tree.{IsRanked}
 use Rattle.yew_laws.proofs.Members.{AllByRecursion-both, AllByRecursion-weaker}
@@ -16,7 +16,7 @@ use Rattle.yew_log.proofs.SeqLaws.{worth-append}
 use Rattle.yew_stack.specs.Levels.{LevelView, Gives}
 use Rattle.yew_stack.specs.Turns.{TopGives, TopEnds}
 use Rattle.yew_walk.specs.declared.keying.Keying.TheVariants.{Plain}
-use Rattle.yew_walk.specs.Seats.{SeatGoes, IsRead, has_read, has_offered}
+use Rattle.yew_walk.specs.Seats.{SeatGoes, IsRead, has_offered}
 use Rattle.yew_walk.specs.SeqRests.{child_notes, level_notes, rest_notes, IsInSequence}
 use Rattle.yew_walk.proofs.PlainLogs.{IsRead-maximum}
 use Rattle.yew_walk.proofs.SeatWays.{goes-stays}

@@ -5,7 +5,7 @@ use Rattle.std.specs.List.{AllByRecursion}
 use Rattle.std.proofs.lemmas.List.{map-append}
 use Rattle.std.proofs.lemmas.List.Concat.{flat_map-append}
 use Rattle.std.proofs.lemmas.List.Elements.{All-contains, All-from_recursion, recursion_from_All, Contains-append_left}
-use Rattle.yew_best.specs.Seats.{SeatView}
+use Rattle.yew_best.specs.Seats.{SeatView, has_read}
 use Rattle.yew_laws.specs.SearchTree.{SearchTree, bound_at}
 use Rattle.yew_laws.proofs.Members.{AllByRecursion-append, AllByRecursion-weaker, Contains-map}
 use Rattle.yew_log.specs.Attained.{limit}
@@ -19,7 +19,7 @@ use Rattle.yew_log.proofs.Walks.{IsJudged-join}
 use Rattle.yew_walk.specs.declared.keying.Keying.{Keying}
 use Rattle.yew_walk.specs.declared.keying.Keying.TheVariants.{Plain, Ranked}
 use Rattle.yew_walk.specs.Keys.{key_of, held_of, kind_of}
-use Rattle.yew_walk.specs.Seats.{has_read, has_offered, IsRead, SeatGoes}
+use Rattle.yew_walk.specs.Seats.{has_offered, IsRead, SeatGoes}
 use Rattle.yew_walk.specs.WorkerLogs.{KeyedSegment, segments_of, SeatGoesOn, ComesFirst, KeysRise}
 use Rattle.yew_walk.proofs.KeyOrder.{limit-none}
 use Rattle.yew_walk.proofs.PlainLogs.{maximum-one}

@@ -1,14 +1,10 @@
 -- How the seat of a worker at the incumbent word goes on: what it reads and offers along the entries of its log.
 use Rattle.std.specs.Prelude.{◌≡◌, ◌≢◌, ℕ, ◌<◌, ◌≤◌, ◌⊎◌, List, [], ◌∷◌, ◌++◌, All, Contains, IfSome}
-use Rattle.yew_best.specs.Seats.{SeatView}
+use Rattle.yew_best.specs.Seats.{SeatView, has_read}
 use Rattle.yew_laws.specs.SearchTree.{SearchTree, bound_at}
 use Rattle.yew_log.specs.Notes.{Note, taken, visited, cut, spawned, handed, ended}
 use Rattle.yew_walk.specs.declared.keying.Keying.{Keying}
 use Rattle.yew_walk.specs.Keys.{key_of, held_of}
-
--- the seat after it has read a word
-abbrev pub has_read : SeatView → ℕ → SeatView
-has_read seat word = record seat { read = seat.read ++ word ∷ [] }
 
 -- the seat after it has offered a key
 abbrev pub has_offered : SeatView → ℕ → SeatView

@@ -1,12 +1,12 @@
 -- What one load of the incumbent word decides of a node.
 use Rattle.std.specs.Prelude.{◌≡◌, ◌≢◌, ℕ, ◌<◌, ◌≤◌, ◌⊎◌, List, []}
-use Rattle.yew_best.specs.Seats.{SeatView}
+use Rattle.yew_best.specs.Seats.{SeatView, has_read}
 use Rattle.yew_laws.specs.declared.problem.Problem.{Ghosts}
 use Rattle.yew_walk.specs.declared.verdict.Verdict.{Verdict}
 use Rattle.yew_walk.specs.declared.verdict.Verdict.TheVariants.{Visit, Cut}
 use Rattle.yew_walk.specs.declared.keying.Keying.{Keying}
 use Rattle.yew_walk.specs.Keys.{key_of, held_of}
-use Rattle.yew_walk.specs.Seats.{has_read, has_offered, IsRead}
+use Rattle.yew_walk.specs.Seats.{has_offered, IsRead}
 
 module _ {S N K : Type 0} (meaning : Ghosts S N K) (problem : S) (keying : Keying) (path : List ℕ) (node : N) where
   -- a visit: the node is the root, or the key of its bound is above the word; the key of its worth is offered
