@@ -13,3 +13,7 @@ pub mod RankedWalks
 pub mod HeardOthers
 pub mod TaskRanks
 pub mod WorkerVisits
+pub mod BrokenFronts
+pub mod FrontierBlocks
+pub mod FrontierFull
+pub mod FrontierLawful

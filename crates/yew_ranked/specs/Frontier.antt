@@ -3,6 +3,7 @@ use Rattle.std.specs.Prelude.{ℕ, zero, suc, List, [], ◌∷◌, ◌++◌, map
 use Rattle.yew_laws.specs.SearchTree.{SearchTree, numbered}
 use Rattle.yew_log.specs.Items.{in_turn}
 use Rattle.yew_log.specs.Notes.{Note, taken, visited, cut, spawned, ended}
+use Rattle.yew_log.specs.Segment.{Segment, segment}
 use Rattle.yew_log.specs.SeqLog.{visited_worth}
 
 module _ {N : Type 0} (t : SearchTree N) where
@@ -17,3 +18,7 @@ module _ {N : Type 0} (t : SearchTree N) where
   -- the log: the root is taken, and what lies above the depth is visited or cut, with so many levels between the root and the tasks
   abbrev pub frontier_log : ℕ → List Note
   frontier_log levels = taken [] ∷ frontier_notes levels [] t.root 0
+
+  -- the log as the one segment of the root
+  abbrev pub frontier_segment : ℕ → Segment
+  frontier_segment levels = segment [] (frontier_notes levels [] t.root 0)

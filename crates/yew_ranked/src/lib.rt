@@ -3,7 +3,8 @@
 //!
 //! [`Claims`] gives each number once, by one addition. [`ranked_keys_find_the_first`] says why keys that carry the number of
 //! an item give the first best node, whatever the schedule; [`items_rise`] and [`frontier_has_the_items`] say which items
-//! there are, and [`answers_gather`] how the hands of workers come together.
+//! there are, [`frontier_is_lawful`] and [`frontier_full_is_audit_full`] what the log of the walk above the tasks is, and
+//! [`answers_gather`] how the hands of workers come together.
 #![tactic(auto)]
 
 mod claim_steps;
@@ -16,5 +17,8 @@ mod task;
 mod tests;
 
 pub use claims::{ClaimSeat, Claims};
+pub use laws::{
+    answers_gather, frontier_full_is_audit_full, frontier_has_the_items, frontier_is_lawful,
+    items_rise, ranked_keys_find_the_first,
+};
 pub use task::RankedTask;
-pub use laws::{answers_gather, frontier_has_the_items, items_rise, ranked_keys_find_the_first};
