@@ -1,7 +1,7 @@
 -- Where all workers found no task left, the places that they walked are all places of the list of tasks, each once.
 use Rattle.std.proofs.Common.{◌≡◌, ◌≢◌, ℕ, zero, suc, ◌+◌, ◌<◌, ◌≤◌, List, [], ◌∷◌, ◌++◌, map, length, Some, None, Option, ◌==◌, nat_lt, if◌then◌else◌, refl, ap, ap₂, sym, subst, ◌∙◌, Bool, true, false, cond, ◌&&◌, arith}
 use Rattle.std.specs.Prelude.{slice_get}
-use Rattle.std.specs.List.{AllByRecursion, sum_by, flat_map}
+use Rattle.std.specs.List.{AllByRecursion, Contains, sum_by, flat_map}
 use Rattle.std.proofs.lemmas.Bool.Decides.{nat_tests}
 use Rattle.std.proofs.lemmas.List.Concat.{flat_map-append}
 use Rattle.std.proofs.lemmas.List.Sums.{sum_by-append, sum_by-cons}
@@ -148,7 +148,7 @@ times-none x (y ∷ ys) a = let rest = times-none x ys a.1 in let s = sum_by-con
     other : (y : ℕ) → (y ≡ x → ⊥) → is_at x y ≡ 0
     other y n = grind (arith, nat_tests)
 
-times-append : (x : ℕ) (xs ys : List ℕ) → times x (xs ++ ys) ≡ times x xs + times x ys
+pub times-append : (x : ℕ) (xs ys : List ℕ) → times x (xs ++ ys) ≡ times x xs + times x ys
 times-append x xs ys = sum_by-append (is_at x) xs ys
 
 times-itself : (x : ℕ) → times x (x ∷ []) ≡ 1
@@ -156,6 +156,35 @@ times-itself x = let s = sum_by-cons (is_at x) x [] in let c = here x in omega a
   where
     here : (x : ℕ) → is_at x x ≡ 1
     here x = grind (arith, nat_tests)
+
+-- a member occurs
+pub times-contains : (x : ℕ) (xs : List ℕ) → Contains xs x → 0 < times x xs
+times-contains x [] c = absurd (omega (arith, c.1))
+times-contains x (y ∷ ys) (zero, less, e) = let s = sum_by-cons (is_at x) y ys in let h = here y e in omega arith
+  where
+    here : (y : ℕ) → y ≡ x → is_at x y ≡ 1
+    here y e = grind (arith, nat_tests)
+times-contains x (y ∷ ys) (suc k, less, e) = let s = sum_by-cons (is_at x) y ys in let rest = times-contains x ys (k, omega arith, e) in omega arith
+
+module _ {W : Type 0} (places : W → List ℕ) where
+  -- no place was walked twice
+  abbrev pub PlacesOnce : List W → Type 0
+  PlacesOnce ws = (x : ℕ) → times x (flat_map places ws) ≤ 1
+
+  pub once-rest : (w : W) (ws : List W) → PlacesOnce (w ∷ ws) → PlacesOnce ws
+  once-rest w ws once x = let a = times-append x (places w) (flat_map places ws) in let o = once x in omega arith
+
+  -- a place of one worker is none of another's
+  pub once-between : (before : List W) (w : W) (after : List W) → PlacesOnce (before ++ w ∷ after) → (x : ℕ) → Contains (places w) x → Contains (flat_map places (before ++ after)) x → ⊥
+  once-between before w after once x here there =
+      let a = ap (times x) (flat_map-append places before (w ∷ after)) in
+      let b = times-append x (flat_map places before) (places w ++ flat_map places after) in
+      let c = times-append x (places w) (flat_map places after) in
+      let d = ap (times x) (flat_map-append places before after) in
+      let e = times-append x (flat_map places before) (flat_map places after) in
+      let f = times-contains x (places w) here in
+      let g = times-contains x (flat_map places (before ++ after)) there in
+      let o = once x in absurd (omega arith)
 
 module _ {W : Type 0} (places : W → List ℕ) (last : W → ℕ) where
   -- what one worker claimed: the places that it walked, and one more
@@ -225,3 +254,11 @@ module _ {W : Type 0} (places : W → List ℕ) (last : W → ℕ) where
   members-once xs count w ws a below weight =
       let same = same-times (flat_map places (w ∷ ws)) (places_of xs) (λ x. walked-once (length xs) count w ws a below x ∙ sym (places-once xs x)) in
       same.weighs (λ p. weight_at weight (slice_get xs p)) ∙ places-weigh weight xs
+
+  -- no place was walked twice
+  pub walked-no_twice : (n count : ℕ) (w : W) (ws : List W) → AllByRecursion (IsPast n) (w ∷ ws) → AreBelow count (flat_map claimed (w ∷ ws)) → PlacesOnce places (w ∷ ws)
+  walked-no_twice n count w ws a below x = let o = walked-once n count w ws a below x in let l = low (nat_lt x n) in omega (arith, o, l)
+    where
+      low : (b : Bool) → (if b then 1 else 0) ≤ 1
+      low true = omega arith
+      low false = omega arith

@@ -144,17 +144,16 @@ module _ {N : Type 0} (t : SearchTree N) {sound : N → Type 0} (ranked : IsRank
           same-worth : (bound item worth other word g : ℕ) → g ≤ bound → worth ≤ g → ranked_key item bound ≤ word → word ≡ ranked_key other worth → worth ≡ g
           same-worth bound item worth other word g over at_most permitted is = omega arith
 
-          no-later : (bound item worth other word g : ℕ) → g ≤ bound → worth ≤ g → item ≤ 1048576 → other < 1048576 → ranked_key item bound ≤ word → word ≡ ranked_key other worth → other ≤ item
-          no-later bound item worth other word g over at_most few few' permitted is = omega arith
+          no-later : (bound item worth other word g : ℕ) → g ≤ bound → worth ≤ g → other < 1048576 → ranked_key item bound ≤ word → word ≡ ranked_key other worth → other ≤ item
+          no-later bound item worth other word g over at_most few permitted is = omega arith
 
           by : (above : IsCutAbove cuts first) → greatest t ≤ above.cut.value → key_of_judgement above.cut ≤ above.cut.word → IsOfferedBefore visits above.cut → ⊥
           by above over permitted o =
               let c = above.cut in let u = o.visit in
               let at_most = visit-at_most u o.among in
-              let few = all-at (λ (v : RankedJudgement). v.item ≤ 1048576) cuts c is.cut_items above.among in
-              let few' = visit-item u o.among in
+              let few = visit-item u o.among in
               let worth = same-worth c.value c.item u.value u.item c.word (greatest t) over at_most permitted o.word_is in
-              let order = no-later c.value c.item u.value u.item c.word (greatest t) over at_most few few' permitted o.word_is in
+              let order = no-later c.value c.item u.value u.item c.word (greatest t) over at_most few permitted o.word_is in
               let before : IsTrue (comes_before u.path c.path) =
               elim (ℕ_discrete u.item c.item) [ yes same ↦ o.earlier same | no other ↦ is.cuts_rise u c o.among above.among (less u.item c.item order other) ] in
               none-before u o.among worth (subst (λ (p : List ℕ). IsTrue (comes_before u.path p)) (sym above.above.is) (before-below u.path c.path above.above.rest before))

@@ -17,3 +17,6 @@ pub mod BrokenFronts
 pub mod FrontierBlocks
 pub mod FrontierFull
 pub mod FrontierLawful
+pub mod FrontierDepths
+pub mod AllVisits
+pub mod WholeVisits

@@ -131,3 +131,7 @@ module _ {N : Type 0} (t : SearchTree N) where
       let i = task-item t depth p a at in
       let d = AllByRecursion-at (AtDepth depth) (items_of t depth) i.place i.item i.found (items-depth depth depth [] t.root 0 (omega arith)) i.is_task in
       let e = ap (λ (l : List ℕ). length l) i.path_is in omega (arith, d, e)
+
+  -- so has the item of a task
+  pub item-depth : (levels k : ℕ) (item : Item) → slice_get (items_of t (suc levels)) k ≡ Some item → IsTrue item.is_task → length item.path ≡ suc levels
+  item-depth levels k item at is_task = AllByRecursion-at (AtDepth (suc levels)) (items_of t (suc levels)) k item at (items-depth (suc levels) (suc levels) [] t.root 0 (omega arith)) is_task

@@ -1,6 +1,9 @@
 use Rattle.std.proofs.Common.{refl}
 use Rattle.yew_ranked.proofs.ClaimedPlaces
 use Rattle.yew_ranked.proofs.RankedWalks
+use Rattle.yew_ranked.proofs.WholeVisits
+use Rattle.yew_ranked.proofs.AllVisits
+use Rattle.yew_ranked.proofs.FrontierDepths
 use Rattle.yew_ranked.proofs.WorkerVisits
 use Rattle.yew_ranked.proofs.TaskRanks
 use Rattle.yew_ranked.proofs.HeardOthers
