@@ -13,6 +13,9 @@ pub mod RankedWalks
 pub mod HeardOthers
 pub mod TaskRanks
 pub mod WorkerVisits
+pub mod TaskWalks
+pub mod WorkerSteps
+pub mod TaskNodes
 pub mod BrokenFronts
 pub mod FrontierBlocks
 pub mod FrontierFull
@@ -20,3 +23,8 @@ pub mod FrontierLawful
 pub mod FrontierDepths
 pub mod AllVisits
 pub mod WholeVisits
+pub mod JoinedParts
+pub mod Sharing
+pub mod AllEnds
+pub mod SettledParts
+pub mod BegunSearch
