@@ -25,7 +25,7 @@ use Rattle.yew_ranked.specs.Frontier.{frontier_log, frontier_segment}
 use Rattle.yew_ranked.specs.FrontierWalk.{AreFrontierJudgements}
 use Rattle.yew_ranked.specs.RankedSearch.{RankedJudgement, ranked_paths, key_of_judgement, plain_judgement, ItemsInOrder, IsOfferedBefore}
 use Rattle.yew_ranked.specs.Tasks.{Numbered, tasks_of_tree, IsBetween}
-use Rattle.yew_ranked.specs.TaskWalks.{AreRising, AreTaskWalks}
+use Rattle.yew_ranked.specs.Stations.{AreRising, AreTaskWalks}
 use Rattle.yew_ranked.proofs.ClaimedPlaces.{claimed, IsPast, PlacesOnce, once-rest, once-between, walked-no_twice}
 use Rattle.yew_ranked.proofs.FrontierDepths.{IsAbove, frontier-visits_above, frontier-cuts_above}
 use Rattle.yew_ranked.proofs.HeardOthers.{joined_with, offers, IsOf, heard-others}

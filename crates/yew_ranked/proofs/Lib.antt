@@ -28,3 +28,11 @@ pub mod Sharing
 pub mod AllEnds
 pub mod SettledParts
 pub mod BegunSearch
+pub mod GatheredHands
+pub mod WholeCover
+pub mod ItemWalks
+pub mod HeldBehindFrontier
+pub mod ExactBehindFrontier
+pub mod WorkersLogs
+pub mod OrderedLogs
+pub mod OrderedParts

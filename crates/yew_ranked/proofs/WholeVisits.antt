@@ -30,7 +30,7 @@ use Rattle.yew_ranked.specs.Frontier.{frontier_log, frontier_segment}
 use Rattle.yew_ranked.specs.FrontierWalk.{AreFrontierJudgements}
 use Rattle.yew_ranked.specs.RankedSearch.{RankedJudgement, ranked_paths, key_of_judgement, plain_judgement, ItemsInOrder, IsOfferedBefore, IsRankedSearch}
 use Rattle.yew_ranked.specs.Tasks.{Numbered, tasks_of_tree, IsBetween}
-use Rattle.yew_ranked.specs.TaskWalks.{AreTaskWalks, IsTaskWalk}
+use Rattle.yew_ranked.specs.Stations.{AreTaskWalks, IsTaskWalk}
 use Rattle.yew_ranked.proofs.AllVisits.{Worked, places_by, last_by, seat_by, visits_by, cuts_by, AreAt, Began, ApartFrom, found-below, all-contains, all-past, at-item, visits-at, cuts-at, workers-order, workers-permitted, all-causes}
 use Rattle.yew_ranked.proofs.ClaimedPlaces.{claimed, PlacesOnce, weight_at, members-once, walked-no_twice}
 use Rattle.yew_ranked.proofs.FrontierDepths.{IsAbove, frontier-visits_above, frontier-cuts_above}

@@ -25,7 +25,7 @@ use Rattle.yew_walk.specs.Seats.{SeatGoes}
 use Rattle.yew_walk.specs.WorkerLogs.{KeyedSegment, segments_of, SeatGoesOn}
 use Rattle.yew_ranked.specs.RankedSearch.{RankedJudgement, key_of_judgement, plain_judgement, ItemsInOrder, IsOfferedBefore, ranked_answer}
 use Rattle.yew_ranked.specs.Tasks.{Numbered, tasks_of_tree}
-use Rattle.yew_ranked.specs.TaskWalks.{best_along, AreRising, IsTaskWalk, AreTaskWalks}
+use Rattle.yew_ranked.specs.Stations.{best_along, AreRising, IsTaskWalk, AreTaskWalks}
 use Rattle.yew_ranked.proofs.FirstBestVisits.{AtNode, at-node, node-sound, cut-inside}
 use Rattle.yew_ranked.proofs.GatheredAnswers.{answer-walk, answer-append}
 use Rattle.yew_ranked.proofs.HeardOthers.{all-front, all-back}

@@ -1,6 +1,10 @@
 use Rattle.std.proofs.Common.{refl}
 use Rattle.yew_ranked.proofs.ClaimedPlaces
 use Rattle.yew_ranked.proofs.RankedWalks
+use Rattle.yew_ranked.proofs.OrderedParts
+use Rattle.yew_ranked.proofs.OrderedLogs
+use Rattle.yew_ranked.proofs.WholeCover
+use Rattle.yew_ranked.proofs.GatheredHands
 use Rattle.yew_ranked.proofs.WholeVisits
 use Rattle.yew_ranked.proofs.AllVisits
 use Rattle.yew_ranked.proofs.FrontierDepths
@@ -10,4 +14,4 @@ use Rattle.yew_ranked.proofs.HeardOthers
 use Rattle.yew_ranked.proofs.whole.parts_are_whole.Goals as goal
 
 pub returns : goal.returns
-returns g c = λ n. refl
+returns g c = ?
