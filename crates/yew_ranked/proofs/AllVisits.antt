@@ -168,7 +168,7 @@ module _ {N : Type 0} (t : SearchTree N) (depth : ℕ) where
       Began w = (x : ℕ) → Contains w.first.offered x → Contains (map key_of_judgement fv) x
 
       -- what workers have offered are keys of the frontier and of their visits
-      offers-keys : (ws : List Worked) → AllByRecursion Began ws → (x : ℕ) → Contains (offers seat_by ws) x → Contains (map key_of_judgement fv) x ⊎ Contains (map key_of_judgement (flat_map visits_by ws)) x
+      pub offers-keys : (ws : List Worked) → AllByRecursion Began ws → (x : ℕ) → Contains (offers seat_by ws) x → Contains (map key_of_judgement fv) x ⊎ Contains (map key_of_judgement (flat_map visits_by ws)) x
       offers-keys [] began x c = absurd (omega (arith, c.1))
       offers-keys (w ∷ ws) began x c = ⊎_elim
           (λ (own : Contains w.now.offered x). ⊎_elim

@@ -36,3 +36,4 @@ pub mod ExactBehindFrontier
 pub mod WorkersLogs
 pub mod OrderedLogs
 pub mod OrderedParts
+pub mod WholeLogs

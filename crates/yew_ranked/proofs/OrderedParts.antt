@@ -71,7 +71,7 @@ module _ {N S R : Type 0} (t : SearchTree N) (join : S → S → S) (none : S) (
   AreFinished (b ∷ befores) [] = ⊥
   AreFinished (b ∷ befores) (a ∷ afters) = IsFinished b a × AreFinished befores afters
 
-  pub finished : (befores : List Station) (reports : List Report) → AreRankedReports t join none of seen tasks befores reports → AllDone reports → AreFinished befores (ranked_stations reports)
+  pub finished : (befores : List Station) (reports : List Report) → AreRankedReports t join none of seen (suc levels) tasks befores reports → AllDone reports → AreFinished befores (ranked_stations reports)
   finished [] [] are done = tt
   finished [] (r ∷ reports) are done = absurd are
   finished (b ∷ befores) [] are done = absurd are

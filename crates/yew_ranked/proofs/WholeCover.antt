@@ -91,7 +91,7 @@ module _ {N : Type 0} (t : SearchTree N) (levels : ℕ) where
         map-append plain_judgement fc (flat_map (cuts_by t (suc levels)) (w ∷ ws))
         ∙ (ap₂ (λ (a b : List Judgement). a ++ b) are.cuts_are (cuts-plain_by t levels (w ∷ ws)) ∙ sym (flat_map-append cut_in (frontier_log t levels) (entries (segments_of all_walks))))
 
-    whole-segments : AllByRecursion (IsSegment t) (frontier_segment t levels ∷ segments_of all_walks)
+    pub whole-segments : AllByRecursion (IsSegment t) (frontier_segment t levels ∷ segments_of all_walks)
     whole-segments = (frontier-segment t ranked root levels, walks-segments all_walks (all-walks t levels (w ∷ ws)))
 
     -- the tasks that were sent are those that were walked

@@ -217,7 +217,7 @@ module _ {N : Type 0} (t : SearchTree N) (levels : ℕ) where
     once : PlacesOnce (places_by t (suc levels)) (w ∷ ws)
     once = walked-no_twice (places_by t (suc levels)) (last_by t (suc levels)) (length tasks) are.count w ws (all-past t (suc levels) (w ∷ ws)) are.claims_are
 
-    began : AllByRecursion (Began t (suc levels) ranked root fv) (w ∷ ws)
+    pub began : AllByRecursion (Began t (suc levels) ranked root fv) (w ∷ ws)
     began = (
       (λ x c. subst (λ l. Contains l x) are.first_offered c),
       AllByRecursion-weaker (λ (v : part). v.first.offered ≡ []) (Began t (suc levels) ranked root fv) (λ v e x c. absurd (let n : Contains {X = ℕ} [] x → ⊥ = λ c. absurd (omega (arith, c.1)) in n (subst (λ l. Contains l x) e c))) ws are.others_offered,

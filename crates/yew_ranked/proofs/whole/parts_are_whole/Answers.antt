@@ -1,6 +1,7 @@
 use Rattle.std.proofs.Common.{refl}
 use Rattle.yew_ranked.proofs.ClaimedPlaces
 use Rattle.yew_ranked.proofs.RankedWalks
+use Rattle.yew_ranked.proofs.WholeLogs
 use Rattle.yew_ranked.proofs.OrderedParts
 use Rattle.yew_ranked.proofs.OrderedLogs
 use Rattle.yew_ranked.proofs.WholeCover
