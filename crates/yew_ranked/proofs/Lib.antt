@@ -37,3 +37,5 @@ pub mod WorkersLogs
 pub mod OrderedLogs
 pub mod OrderedParts
 pub mod WholeLogs
+pub mod OrderedSums
+pub mod OrderedFinds

@@ -95,7 +95,7 @@ module _ {N S R : Type 0} (t : SearchTree N) (join : S → S → S) (none : S) (
   works-claims (b ∷ befores) [] are fresh = absurd are
   works-claims (b ∷ befores) (a ∷ afters) are fresh = ap₂ (λ (x y : List ℕ). x ++ y) (sym (done-claims b a are.0 fresh.0)) (works-claims befores afters are.1 fresh.1)
 
-  works-joined : (seat : SeatView) (befores afters : List Station) (are : AreFinished befores afters) → joined_with (seat_by t (suc levels)) seat (works befores afters are) ≡ best_with seat afters
+  pub works-joined : (seat : SeatView) (befores afters : List Station) (are : AreFinished befores afters) → joined_with (seat_by t (suc levels)) seat (works befores afters are) ≡ best_with seat afters
   works-joined seat [] [] are = refl
   works-joined seat [] (a ∷ afters) are = absurd are
   works-joined seat (b ∷ befores) [] are = absurd are
