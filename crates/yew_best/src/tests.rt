@@ -78,6 +78,26 @@ fn greater<R: Threads + Sync>(rt: &R, alloc: Global, a: u64, b: u64) -> Result<u
     Ok(best.close(first))
 }
 
+// A seat reads and only then offers a key. Where no other seat offers anything, what it read was 0, whatever the key.
+fn read_first(alloc: Global, key: u64) -> Result<(u64, u64), Memory>
+    ensures { IfOk result (λ r. r.0 ≡ 0) }
+{
+    let (best, mut first) = Best::new(alloc, 2)?;
+    let second = best.split(&mut first);
+    let word = best.read(&mut first);
+    best.raise(&mut first, key);
+    best.join(&mut first, second);
+    Ok((word, best.close(first)))
+}
+
+#[test]
+fn a_key_is_not_read_before_it_is_offered(rt: HostRuntime) -> Result<(), Fail> {
+    for key in [0, 1, u64::MAX] {
+        assert_eq!(rt; read_first(rt.alloc(), key)?, (0, key), "{key}");
+    }
+    Ok(())
+}
+
 #[test]
 fn two_threads_offer(rt: HostRuntime) -> Result<(), Fail> {
     for (a, b, word) in [(3, 8, 8), (8, 3, 8), (4, 4, 4), (0, 0, 0)] {

@@ -8,7 +8,15 @@ pub mod ItemPlaces
 pub mod PathOrder
 pub mod Preorder
 pub mod RankedAnswers
+pub mod TaskWalks
+pub mod WorkerSteps
+pub mod TaskNodes
 pub mod BrokenFronts
 pub mod FrontierBlocks
 pub mod FrontierFull
 pub mod FrontierLawful
+pub mod JoinedParts
+pub mod Sharing
+pub mod AllEnds
+pub mod SettledParts
+pub mod BegunSearch

@@ -4,7 +4,11 @@ pub mod ClaimViews
 pub mod Frontier
 pub mod FrontierWalk
 pub mod OrderedSearch
+pub mod Joining
 pub mod RankedSearch
+pub mod Searching
+pub mod Starting
 pub mod Stations
 pub mod Tasks
+pub mod Turns
 pub mod Whole

@@ -81,7 +81,7 @@ module _ {N S R : Type 0} (t : SearchTree N) (join : S → S → S) (none : S) (
     pub members : List (Member N)
     pub claims_are : now.claims.claimed ≡ before.claims.claimed ++ places
     pub rising : AreRising places
-    pub are_walks : AreTaskWalks tasks places walks
+    pub are_walks : AreTaskWalks t tasks places walks
     pub goes : SeatGoesOn t before.best walks now.best
     pub log_is : seen now.log ≡ log_after (seen before.log) (entries (segments_of walks))
     pub are_visited : AreVisited t (entries (segments_of walks)) members

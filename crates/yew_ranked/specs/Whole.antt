@@ -1,7 +1,7 @@
 -- All workers of an ordered search: how their stations begin, what they have done together, and what their seats come to once they are joined.
-use Rattle.std.specs.Prelude.{◌≡◌, ℕ, suc, false, List, [], ◌∷◌, ◌++◌, map, length, IfSome}
+use Rattle.std.specs.Prelude.{◌≡◌, ℕ, suc, ◌+◌, ◌-◌, ◌++◌, ◌⊎◌, false, List, [], ◌∷◌, All, Contains, map, length, IfSome}
 use Rattle.std.specs.List.{AllByRecursion, flat_map}
-use Rattle.yew_best.specs.Seats.{SeatView, joined_seat}
+use Rattle.yew_best.specs.Seats.{SeatView}
 use Rattle.yew_crew.specs.declared.station.End.{End}
 use Rattle.yew_crew.specs.declared.station.End.TheVariants.{Done, Stopped, Fault}
 use Rattle.yew_crew.specs.Reports.{IsEndDone}
@@ -27,7 +27,6 @@ module _ {S R : Type 0} (none : S) (seen : R → LogView) where
   pub record IsFreshStation (number : ℕ) (station : RankedStation S R) : Type 0 where
     pub number_is : station.number ≡ number
     pub none_offered : station.best.offered ≡ []
-    pub none_heard : station.best.heard ≡ []
     pub none_claimed : station.claims.claimed ≡ []
     pub no_stop : station.stop.stops ≡ 0
     pub holds_none : station.hand.holds ≡ false
@@ -76,6 +75,9 @@ module _ {N S R : Type 0} (t : SearchTree N) (join : S → S → S) (none : S) (
     pub crew : IsRankedCrew workers begun
     pub are_reports : AreRankedReports begun reports
 
+abbrev pub joined_seat : SeatView → SeatView → SeatView
+joined_seat seat other = record seat { share = seat.share + other.share; read = seat.read ++ other.read; offered = seat.offered ++ other.offered }
+
 module _ {S R : Type 0} where
   -- the stations of reports, in order
   abbrev pub ranked_stations : List (RankedReport S R) → List (RankedStation S R)
@@ -90,12 +92,12 @@ module _ {S R : Type 0} where
   abbrev pub claimed_by : List (RankedStation S R) → List ℕ
   claimed_by stations = flat_map (λ (s : RankedStation S R). s.claims.claimed) stations
 
-  -- What the joined seats of all workers say: nothing was heard that none of them offered, and the claimed numbers are all those below one
+  -- What the joined seats of all workers say: each word that was read is 0 or was offered, nothing was heard that none of them offered, and the claimed numbers are all those below one
   pub record IsRankedSettled (reports : List (RankedReport S R)) : Type 0 where
     pub first : RankedReport S R
     pub rest : List (RankedReport S R)
     pub stands : reports ≡ first ∷ rest
-    pub none_heard : AllByRecursion (λ x. x ≡ 0) (best_with first.station.best (ranked_stations rest)).heard
+    pub reads_offered : All (λ x. (x ≡ 0) ⊎ Contains (best_with first.station.best (ranked_stations rest)).offered x) (best_with first.station.best (ranked_stations rest)).read
     pub count : ℕ
     pub claimed : AreBelow count (claimed_by (ranked_stations reports))
 

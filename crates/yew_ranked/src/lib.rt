@@ -11,14 +11,22 @@ mod claim_steps;
 mod claim_view;
 mod claims;
 mod laws;
+mod whole;
+mod starting;
+mod ordered;
+mod joining;
+mod frontier;
+mod ending;
 mod station;
 mod task;
 #[cfg(test)]
 mod tests;
+mod worker;
 
 pub use claims::{ClaimSeat, Claims};
 pub use laws::{
     answers_gather, frontier_full_is_audit_full, frontier_has_the_items, frontier_is_lawful,
     items_rise, ranked_keys_find_the_first,
 };
+pub use ordered::search_ordered;
 pub use task::RankedTask;
