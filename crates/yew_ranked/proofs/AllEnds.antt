@@ -26,7 +26,7 @@ or_left false b e = absurd (let n : false ≡ true → ⊥ = λ h. cc in n e)
 
 module _ {S R : Type 0} where
   -- a fault that is there stays
-  fault-stays : (fault : SearchFault) (reports : List (RankedReport S R)) → fault_in (Some fault) reports ≡ Some fault
+  pub fault-stays : (fault : SearchFault) (reports : List (RankedReport S R)) → fault_in (Some fault) reports ≡ Some fault
   fault-stays fault [] = refl
   fault-stays fault (r ∷ rs) = fault-stays fault rs
 

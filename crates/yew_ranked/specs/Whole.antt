@@ -1,7 +1,7 @@
 -- All workers of an ordered search: how their stations begin, what they have done together, and what their seats come to once they are joined.
-use Rattle.std.specs.Prelude.{◌≡◌, ℕ, suc, ◌+◌, ◌-◌, ◌++◌, ◌⊎◌, false, List, [], ◌∷◌, All, Contains, map, length, IfSome}
+use Rattle.std.specs.Prelude.{◌≡◌, ℕ, suc, ◌-◌, ◌⊎◌, false, List, [], ◌∷◌, All, Contains, map, length, IfSome}
 use Rattle.std.specs.List.{AllByRecursion, flat_map}
-use Rattle.yew_best.specs.Seats.{SeatView}
+use Rattle.yew_best.specs.Seats.{SeatView, joined_seat}
 use Rattle.yew_crew.specs.declared.station.End.{End}
 use Rattle.yew_crew.specs.declared.station.End.TheVariants.{Done, Stopped, Fault}
 use Rattle.yew_crew.specs.Reports.{IsEndDone}
@@ -27,6 +27,7 @@ module _ {S R : Type 0} (none : S) (seen : R → LogView) where
   pub record IsFreshStation (number : ℕ) (station : RankedStation S R) : Type 0 where
     pub number_is : station.number ≡ number
     pub none_offered : station.best.offered ≡ []
+    pub none_heard : station.best.heard ≡ []
     pub none_claimed : station.claims.claimed ≡ []
     pub no_stop : station.stop.stops ≡ 0
     pub holds_none : station.hand.holds ≡ false
@@ -53,7 +54,7 @@ module _ {N S R : Type 0} (t : SearchTree N) (join : S → S → S) (none : S) (
     pub none_claimed : station.claims.claimed ≡ []
     pub no_stop : station.stop.stops ≡ 0
 
-  -- the stations of so many workers, in order, before they begin
+  -- the stations of so many workers, in order, before they begin; where there is one worker, its seat at the incumbent word has the whole share
   pub record IsRankedCrew (workers : ℕ) (begun : List (RankedStation S R)) : Type 0 where
     pub first : RankedStation S R
     pub others : List (RankedStation S R)
@@ -61,6 +62,7 @@ module _ {N S R : Type 0} (t : SearchTree N) (join : S → S → S) (none : S) (
     pub count : suc (length others) ≡ workers
     pub first_is : IsFirstStation first
     pub others_are : AreFresh none seen 2 others
+    pub alone : workers ≡ 1 → first.best.share ≡ first.best.best.seats
 
   -- there is one report for each station, in order
   abbrev pub AreRankedReports : List (RankedStation S R) → List (RankedReport S R) → Type 0
@@ -74,9 +76,6 @@ module _ {N S R : Type 0} (t : SearchTree N) (join : S → S → S) (none : S) (
     pub begun : List (RankedStation S R)
     pub crew : IsRankedCrew workers begun
     pub are_reports : AreRankedReports begun reports
-
-abbrev pub joined_seat : SeatView → SeatView → SeatView
-joined_seat seat other = record seat { share = seat.share + other.share; read = seat.read ++ other.read; offered = seat.offered ++ other.offered }
 
 module _ {S R : Type 0} where
   -- the stations of reports, in order
@@ -97,7 +96,9 @@ module _ {S R : Type 0} where
     pub first : RankedReport S R
     pub rest : List (RankedReport S R)
     pub stands : reports ≡ first ∷ rest
+    pub none_heard : AllByRecursion (λ x. x ≡ 0) (best_with first.station.best (ranked_stations rest)).heard
     pub reads_offered : All (λ x. (x ≡ 0) ⊎ Contains (best_with first.station.best (ranked_stations rest)).offered x) (best_with first.station.best (ranked_stations rest)).read
+    pub whole : (best_with first.station.best (ranked_stations rest)).share ≡ (best_with first.station.best (ranked_stations rest)).best.seats
     pub count : ℕ
     pub claimed : AreBelow count (claimed_by (ranked_stations reports))
 
