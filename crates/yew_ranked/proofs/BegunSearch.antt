@@ -22,15 +22,15 @@ use Rattle.yew_ranked.specs.declared.station.RankedShared.{RankedShared}
 use Rattle.yew_ranked.specs.declared.station.RankedStation.{RankedStation}
 use Rattle.yew_ranked.proofs.Sharing.{new-fresh, new-seated, new-ready}
 
+one-more : (b : Bool) (x : Numbered) (xs : List Numbered) (n : ℕ) → length xs ≤ n → length ((if b then x ∷ [] else []) ++ xs) ≤ suc n
+one-more true x xs n few = omega (arith, few)
+one-more false x xs n few = omega (arith, few)
+
 -- there are no more tasks than items
 tasks-few : (rank : ℕ) (items : List Item) → length (tasks_from rank items) ≤ length items
 tasks-few rank [] = omega arith
-tasks-few rank (item ∷ items) = let more = tasks-few (suc rank) items in by item.is_task more
-  where
-    by : (b : Bool) → length (tasks_from (suc rank) items) ≤ length items
-        → length ((if b then record { path = item.path; rank = rank } ∷ [] else []) ++ tasks_from (suc rank) items) ≤ suc (length items)
-    by true more = omega (arith, more)
-    by false more = omega (arith, more)
+tasks-few rank (item ∷ items) =
+    one-more item.is_task (record { path = item.path; rank = rank }) (tasks_from (suc rank) items) (length items) (tasks-few (suc rank) items)
 
 module _ {N : Type 0} (t : SearchTree N) (depth workers : ℕ) where
   -- why the walk above the tasks was refused is why the search was

@@ -1,22 +1,21 @@
 -- The walks of a worker behind the walk above the depth of tasks keep rules 7, 8 and 9 together with it, since its seat has offered the keys of all visits there.
-use Rattle.std.proofs.Common.{◌≡◌, ◌≢◌, ℕ, ◌+◌, ◌-◌, ◌*◌, ◌/◌, ◌^◌, ◌<◌, ◌≤◌, ◌⊎◌, inl, inr, ⊎_elim, Some, None, Option, List, [], ◌∷◌, ◌++◌, map, refl, ap, ap₂, sym, subst, ◌∙◌, append_assoc, append-nil, arith}
-use Rattle.std.specs.Prelude.{Contains, IsTrue, IfSome, All}
+use Rattle.std.proofs.Common.{◌≡◌, ◌≢◌, ℕ, ◌+◌, ◌-◌, ◌*◌, ◌^◌, ◌<◌, ◌≤◌, ◌⊎◌, inl, inr, Some, None, Option, List, [], ◌∷◌, ◌++◌, map, refl, ap, sym, subst, ◌∙◌, append_assoc, append-nil, arith}
+use Rattle.std.specs.Prelude.{Contains, IsTrue, IfSome}
 use Rattle.std.specs.List.{AllByRecursion}
-use Rattle.std.proofs.lemmas.List.{map-append}
 use Rattle.std.proofs.lemmas.List.Concat.{flat_map-append}
-use Rattle.std.proofs.lemmas.List.Elements.{All-contains, All-from_recursion, recursion_from_All, Contains-append_left}
+use Rattle.std.proofs.lemmas.List.Elements.{All-contains, Contains-append_left}
 use Rattle.yew_best.specs.Seats.{SeatView, has_read}
 use Rattle.yew_laws.specs.Order.{comes_before}
 use Rattle.yew_laws.specs.SearchTree.{SearchTree, bound_at}
 use Rattle.yew_laws.specs.Tree.{IsRanked}
-use Rattle.yew_laws.proofs.Members.{AllByRecursion-append, AllByRecursion-weaker, Contains-map}
+use Rattle.yew_laws.proofs.Members.{AllByRecursion-append, AllByRecursion-weaker}
 use Rattle.yew_log.specs.Attained.{limit}
-use Rattle.yew_log.specs.HeldValues.{KeyKind, ranked, CountsFor, HeldRises, HeldIsMaximum, IsJudged, IsDue, IsLater}
+use Rattle.yew_log.specs.HeldValues.{ranked, CountsFor, HeldRises, HeldIsMaximum, IsJudged, IsDue, IsLater}
 use Rattle.yew_log.specs.Items.{items_of, IsInItem}
 use Rattle.yew_log.specs.Notes.{Note, taken, visited, cut, spawned, handed, ended, Judgement, judgement, visit_in, cut_in, judgement_in, judgements, visits, paths, visited_paths, values, held_values, maximum}
 use Rattle.yew_log.specs.Places.{AtEach}
 use Rattle.yew_log.specs.Segment.{entries, entries_in}
-use Rattle.yew_log.proofs.Growth.{HeldRises-append, worths-append, held_values-append}
+use Rattle.yew_log.proofs.Growth.{HeldRises-append, worths-append}
 use Rattle.yew_log.proofs.Nesting.{all-flat}
 use Rattle.yew_log.proofs.Places.{AtEach-append}
 use Rattle.yew_walk.specs.declared.keying.Keying.TheVariants.{Ranked}
@@ -24,14 +23,13 @@ use Rattle.yew_walk.specs.Keys.{key_of, held_of}
 use Rattle.yew_walk.specs.Seats.{has_offered, IsRead, IsVisitWord, IsCutWord, SeatGoes}
 use Rattle.yew_walk.specs.WorkerLogs.{KeyedSegment, segments_of, SeatGoesOn}
 use Rattle.yew_walk.proofs.KeyOrder.{limit-none, held_of-key_of}
-use Rattle.yew_walk.proofs.PlainLogs.{maximum-one}
-use Rattle.yew_walk.proofs.SeatWays.{goes-keeps, goes-stays}
+use Rattle.yew_walk.proofs.SeatWays.{goes-keeps}
 use Rattle.yew_walk.proofs.WorkerLogs.{walks-rise, walks-judged}
 use Rattle.yew_ranked.specs.RankedSearch.{RankedJudgement, key_of_judgement, plain_judgement}
 use Rattle.yew_ranked.specs.Stations.{AreRising}
 use Rattle.yew_ranked.specs.Tasks.{tasks_of_tree}
 use Rattle.yew_ranked.proofs.ItemPlaces.{in_items-rise}
-use Rattle.yew_ranked.proofs.ItemWalks.{IsPartAt, ArePartsAt, parts-all, keys-rise, visited-in_item}
+use Rattle.yew_ranked.proofs.ItemWalks.{ArePartsAt, parts-all, keys-rise, visited-in_item}
 use Rattle.yew_ranked.proofs.PathOrder.{before-not_both}
 
 -- the keys of all these visits were offered
@@ -61,30 +59,25 @@ module _ {N : Type 0} (t : SearchTree N) (rank : ℕ) (earlier : List RankedJudg
   goes-each a b (handed p ∷ ns) offered g = goes-each a b ns offered g
   goes-each a b (ended p ∷ ns) offered g = goes-each a b ns offered g
 
--- where each held value is the greatest worth before it, all are at most the greatest worth
 maximum-front : (xs ys : List ℕ) → maximum xs ≤ maximum (xs ++ ys)
 maximum-front [] ys = omega arith
 maximum-front (x ∷ xs) ys = let rest = maximum-front xs ys in omega (arith, rest)
 
+-- where each held value is the greatest worth before it, all are at most the greatest worth
 module _ (whole : List Note) where
   abbrev Most : ℕ
   Most = maximum (values (visits whole))
 
+  most-over : (before rest : List Note) → before ++ rest ≡ whole → (h : ℕ) → h ≡ maximum (values (visits before)) → h ≤ Most
+  most-over before rest is h e =
+      let grows = maximum-front (values (visits before)) (values (visits rest)) in
+      let same = ap maximum (sym (worths-append before rest) ∙ ap (λ ns. values (visits ns)) is) in omega (arith, e, grows, same)
+
   helds-below : (before notes : List Note) → before ++ notes ≡ whole → AtEach (λ b n a. AllByRecursion (λ (j : Judgement). j.held ≡ maximum (values (visits b))) (judgement_in n)) before notes
       → AllByRecursion (λ h. h ≤ Most) (held_values (judgements notes))
   helds-below before [] is exact = tt
-  helds-below before (visited p w h ∷ ns) is exact = (one before (visited p w h ∷ ns) is h exact.0.0, helds-below (before ++ visited p w h ∷ []) ns (append_assoc before (visited p w h ∷ []) ns ∙ is) exact.1)
-    where
-      one : (before rest : List Note) → before ++ rest ≡ whole → (h : ℕ) → h ≡ maximum (values (visits before)) → h ≤ Most
-      one before rest is h e =
-          let grows = maximum-front (values (visits before)) (values (visits rest)) in
-          let same = ap maximum (sym (worths-append before rest) ∙ ap (λ ns. values (visits ns)) is) in omega (arith, e, grows, same)
-  helds-below before (cut p w h ∷ ns) is exact = (one before (cut p w h ∷ ns) is h exact.0.0, helds-below (before ++ cut p w h ∷ []) ns (append_assoc before (cut p w h ∷ []) ns ∙ is) exact.1)
-    where
-      one : (before rest : List Note) → before ++ rest ≡ whole → (h : ℕ) → h ≡ maximum (values (visits before)) → h ≤ Most
-      one before rest is h e =
-          let grows = maximum-front (values (visits before)) (values (visits rest)) in
-          let same = ap maximum (sym (worths-append before rest) ∙ ap (λ ns. values (visits ns)) is) in omega (arith, e, grows, same)
+  helds-below before (visited p w h ∷ ns) is exact = (most-over before (visited p w h ∷ ns) is h exact.0.0, helds-below (before ++ visited p w h ∷ []) ns (append_assoc before (visited p w h ∷ []) ns ∙ is) exact.1)
+  helds-below before (cut p w h ∷ ns) is exact = (most-over before (cut p w h ∷ ns) is h exact.0.0, helds-below (before ++ cut p w h ∷ []) ns (append_assoc before (cut p w h ∷ []) ns ∙ is) exact.1)
   helds-below before (taken p ∷ ns) is exact = helds-below (before ++ taken p ∷ []) ns (append_assoc before (taken p ∷ []) ns ∙ is) exact.1
   helds-below before (spawned p ∷ ns) is exact = helds-below (before ++ spawned p ∷ []) ns (append_assoc before (spawned p ∷ []) ns ∙ is) exact.1
   helds-below before (handed p ∷ ns) is exact = helds-below (before ++ handed p ∷ []) ns (append_assoc before (handed p ∷ []) ns ∙ is) exact.1
@@ -210,8 +203,7 @@ module _ {N : Type 0} (t : SearchTree N) (front : List Note) (earlier : List Ran
           let one = walk-behind part.task.rank a mid (entries_in w.segment) offered goes (visited-in_item t is_ranked root depth p w part) in
           let keeps = goes-keeps t w.keying a mid (entries_in w.segment) g.1 in
           let more = walks-behind ps ws mid b are.1
-          (AllByRecursion-weaker (λ (u : RankedJudgement). Contains a.offered (key_of_judgement u)) (λ (u : RankedJudgement). Contains mid.offered (key_of_judgement u)) (λ u c. keeps.offered (key_of_judgement u) c) earlier offered) g.2 in
-          (
+          (AllByRecursion-weaker (λ (u : RankedJudgement). Contains a.offered (key_of_judgement u)) (λ (u : RankedJudgement). Contains mid.offered (key_of_judgement u)) (λ u c. keeps.offered (key_of_judgement u) c) earlier offered) g.2 in (
             subst (AllByRecursion (IsLater front)) (sym (flat_map-append judgement_in (entries_in w.segment) (all_entries ws)))
                 (AllByRecursion-append (IsLater front) (judgements (entries_in w.segment)) (judgements (all_entries ws)) one.0 more.0),
             subst (AllByRecursion IsOver) (sym (flat_map-append visit_in (entries_in w.segment) (all_entries ws)))

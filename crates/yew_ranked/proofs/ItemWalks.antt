@@ -8,7 +8,7 @@ use Rattle.yew_laws.specs.Order.{lies_below, is_path}
 use Rattle.yew_laws.specs.SearchTree.{SearchTree, at_path, below}
 use Rattle.yew_laws.specs.Tree.{IsRanked}
 use Rattle.yew_laws.proofs.Below.{AtOrBelow}
-use Rattle.yew_laws.proofs.Members.{AllByRecursion-append, AllByRecursion-weaker}
+use Rattle.yew_laws.proofs.Members.{AllByRecursion-weaker}
 use Rattle.yew_laws.proofs.PathTests.{is_path-same, is_path-is, below-itself}
 use Rattle.yew_laws.proofs.Weights.{part-all}
 use Rattle.yew_log.specs.HeldValues.{ranked, HeldRises, IsJudged}

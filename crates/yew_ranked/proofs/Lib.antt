@@ -39,3 +39,4 @@ pub mod OrderedParts
 pub mod WholeLogs
 pub mod OrderedSums
 pub mod OrderedFinds
+pub mod OrderedFaults

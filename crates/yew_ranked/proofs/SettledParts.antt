@@ -3,7 +3,6 @@ use Rattle.std.proofs.Common.{◌≡◌, ℕ, suc, ◌+◌, ◌<◌, ◌≤◌, 
 use Rattle.std.specs.List.{AllByRecursion, flat_map}
 use Rattle.yew_best.specs.Seats.{BestId, SeatView}
 use Rattle.yew_crew.specs.OpenSeats.{OpenId, OpenSeatView}
-use Rattle.yew_crew.specs.Reports.{HasNoFault}
 use Rattle.yew_laws.specs.SearchTree.{SearchTree}
 use Rattle.yew_walk.specs.LogViews.{LogView}
 use Rattle.yew_walk.specs.declared.hand.Hand.{Hand}
@@ -137,13 +136,9 @@ module _ {N S R : Type 0} (t : SearchTree N) (join : S → S → S) (none : S) (
 
       -- where no fault is found, every worker found no task left
       pub settled-done : settled.fault ≡ None → AllDone reports
-      settled-done none_found = by reports w.begun w.are_reports begun-stops (none-faulty reports (sym is.fault ∙ none_found)) is.seats.first is.seats.rest is.seats.stands is.saw
-        where
-          by : (rs : List (RankedReport S R)) (bs : List (RankedStation S R)) → AreRankedReports t join none of seen depth (map numbered_task shared.tasks.items) bs rs
-              → AllByRecursion (λ (b : RankedStation S R). b.stop.stops ≡ 0) bs → AllByRecursion (λ (r : RankedReport S R). HasNoFault r.end) rs
-              → (first : RankedReport S R) (rest : List (RankedReport S R)) → rs ≡ first ∷ rest
-              → ((stop_with first.station.stop (ranked_stations rest)).saw ≡ true → 0 < (stop_with first.station.stop (ranked_stations rest)).stops) → AllDone rs
-          by rs bs are begins ends first rest stands saw = all-done-first t join none of seen depth (map numbered_task shared.tasks.items) bs rs first rest stands are begins ends saw
+      settled-done none_found =
+          all-done-first t join none of seen depth (map numbered_task shared.tasks.items) w.begun reports is.seats.first is.seats.rest is.seats.stands w.are_reports begun-stops
+          (none-faulty reports (sym is.fault ∙ none_found)) is.saw
 
       pub settled-fits : AllByRecursion (λ (h : Hand S). fits h.sum) settled.hands.items
       settled-fits = subst (AllByRecursion (λ (h : Hand S). fits h.sum)) (sym is.hands) (fits-hands fits reports w.fit)

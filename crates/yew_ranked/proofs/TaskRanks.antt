@@ -20,7 +20,12 @@ pub record IsItem (rank : ℕ) (items : List Item) (task : Numbered) : Type 0 wh
 
 item-later : (rank : ℕ) (item : Item) (items : List Item) (task : Numbered) → IsItem (suc rank) items task → IsItem rank (item ∷ items) task
 item-later rank item items task i = record {
-  place = suc i.place; item = i.item; rank_is = (let e = i.rank_is in omega (arith, e)); found = i.found; path_is = i.path_is; is_task = i.is_task;
+  place = suc i.place;
+  item = i.item;
+  rank_is = (let e = i.rank_is in omega (arith, e));
+  found = i.found;
+  path_is = i.path_is;
+  is_task = i.is_task;
 }
 
 -- each task is an item
@@ -113,13 +118,15 @@ module _ {N : Type 0} (t : SearchTree N) where
 
   items-depth : (depth levels : ℕ) (path : List ℕ) (n : N) (held : ℕ) → length path + levels ≡ depth → AllByRecursion (AtDepth depth) (items_from t levels path n held)
   items-depth depth zero path n held at = ((λ e. omega (arith, at)), tt)
-  items-depth depth (suc zero) path n held at =
-      ((λ e. absurd (let no : IsTrue false → ⊥ = λ x. cc in no e)),
-      in_turn-all (AtDepth depth) (λ p c h. if true then items_from t zero p c h else []) path (λ k c h. items-depth depth zero (path ++ k ∷ []) c h (let l = longer path k in omega (arith, l, at))) 0 (t.children n) (max held (t.worth n)))
-  items-depth depth (suc (suc levels)) path n held at =
-      ((λ e. absurd (let no : IsTrue false → ⊥ = λ x. cc in no e)),
-      in_turn-all (AtDepth depth) (λ p c h. if nat_lt h (t.bound c) then items_from t (suc levels) p c h else []) path
-      (λ k c h. kept (nat_lt h (t.bound c)) (items_from t (suc levels) (path ++ k ∷ []) c h) (items-depth depth (suc levels) (path ++ k ∷ []) c h (let l = longer path k in omega (arith, l, at)))) 0 (t.children n) (max held (t.worth n)))
+  items-depth depth (suc zero) path n held at = (
+    (λ e. absurd (let no : IsTrue false → ⊥ = λ x. cc in no e)),
+    in_turn-all (AtDepth depth) (λ p c h. if true then items_from t zero p c h else []) path (λ k c h. items-depth depth zero (path ++ k ∷ []) c h (let l = longer path k in omega (arith, l, at))) 0 (t.children n) (max held (t.worth n)),
+  )
+  items-depth depth (suc (suc levels)) path n held at = (
+    (λ e. absurd (let no : IsTrue false → ⊥ = λ x. cc in no e)),
+    in_turn-all (AtDepth depth) (λ p c h. if nat_lt h (t.bound c) then items_from t (suc levels) p c h else []) path
+        (λ k c h. kept (nat_lt h (t.bound c)) (items_from t (suc levels) (path ++ k ∷ []) c h) (items-depth depth (suc levels) (path ++ k ∷ []) c h (let l = longer path k in omega (arith, l, at)))) 0 (t.children n) (max held (t.worth n)),
+  )
     where
       kept : (b : Bool) (is : List Item) → AllByRecursion (AtDepth depth) is → AllByRecursion (AtDepth depth) (if b then is else [])
       kept true is a = a

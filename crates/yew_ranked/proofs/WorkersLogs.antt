@@ -1,12 +1,11 @@
 -- The log of a worker of an ordered search whose walk was refused: what it has walked, and a part of one more walk, behind the walk above the depth of tasks or not.
-use Rattle.std.proofs.Common.{◌≡◌, ℕ, suc, ◌+◌, ◌-◌, ◌<◌, ◌≤◌, ◌⊎◌, inl, inr, Some, List, [], ◌∷◌, ◌++◌, map, length, refl, ap, sym, subst, ◌∙◌, append_assoc, append-nil, arith}
+use Rattle.std.proofs.Common.{◌≡◌, ℕ, suc, ◌-◌, ◌<◌, ◌≤◌, ◌⊎◌, inl, inr, Some, List, [], ◌∷◌, ◌++◌, map, length, refl, ap, sym, subst, ◌∙◌, append-nil, arith}
 use Rattle.std.specs.Prelude.{IsSome, Contains, slice_get}
 use Rattle.std.specs.List.{AllByRecursion, sum_by}
 use Rattle.std.proofs.lemmas.List.{map-append}
 use Rattle.std.proofs.lemmas.List.Concat.{flat_map-append}
 use Rattle.std.proofs.lemmas.List.Sums.{sum_by-append, sum_by-cons}
 use Rattle.yew_best.specs.Seats.{SeatView, has_read}
-use Rattle.yew_laws.specs.Bag.{PartOfBag}
 use Rattle.yew_laws.specs.SearchTree.{SearchTree, at_path}
 use Rattle.yew_laws.specs.Tree.{IsRanked, IsBounded}
 use Rattle.yew_laws.proofs.Bags.{same-refl, same-part, sum_by-map}
@@ -23,7 +22,7 @@ use Rattle.yew_walk.specs.Keys.{key_of}
 use Rattle.yew_walk.specs.Seats.{has_offered, SeatGoes}
 use Rattle.yew_walk.specs.WorkerLogs.{KeyedSegment, segments_of, SeatGoesOn}
 use Rattle.yew_walk.proofs.WorkerLogs.{walks-rise, walks-judged, goes_on-push}
-use Rattle.yew_crew.proofs.OnceOnly.{Doing, IsDoing, all_took, all_sent, once-only}
+use Rattle.yew_crew.proofs.OnceOnly.{Doing, IsDoing, all_sent, once-only}
 use Rattle.yew_ranked.specs.Frontier.{frontier_log, frontier_segment}
 use Rattle.yew_ranked.specs.RankedSearch.{RankedJudgement, key_of_judgement, plain_judgement}
 use Rattle.yew_ranked.specs.Stations.{AreRising, IsTaskWalk, AreTaskWalks}
@@ -62,7 +61,13 @@ module _ {N : Type 0} (t : SearchTree N) where
   -- whole walks
   task-part : (tasks : List Numbered) (place : ℕ) (walk : KeyedSegment) → (task : Numbered) × (slice_get tasks place ≡ Some task) × IsTaskWalk t task walk → IsPartAt t tasks place walk
   task-part tasks place walk w = let is = w.2 in record {
-    task = w.0; there = w.1; keys = is.keys; task_is = is.task_is; is_broken = is.is_broken; rises = is.rises; judged = is.judged;
+    task = w.0;
+    there = w.1;
+    keys = is.keys;
+    task_is = is.task_is;
+    is_broken = is.is_broken;
+    rises = is.rises;
+    judged = is.judged;
   }
 
   pub task-parts : (tasks : List Numbered) (places : List ℕ) (walks : List KeyedSegment) → AreTaskWalks t tasks places walks → ArePartsAt t tasks places walks

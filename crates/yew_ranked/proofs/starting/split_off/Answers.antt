@@ -17,6 +17,7 @@ returns-clause-new g c = record {
   fresh = record {
     number_is = refl;
     none_offered = ap (λ (s : SeatView). s.offered) c.split-best.ensures.new;
+    none_heard = ap (λ (s : SeatView). s.heard) c.split-best.ensures.new;
     none_claimed = ap (λ (s : ClaimSeatView). s.claimed) c.split-claims.ensures.new ∙ c.requires.none_claimed;
     no_stop = ap (λ (s : OpenSeatView). s.stops) c.split-stop.ensures.new;
     holds_none = c.in_ok-hand.ensures.holds;
