@@ -1,8 +1,7 @@
 -- The tasks of an ordered search, each with its number among the items.
-use Rattle.std.specs.Prelude.{◌≡◌, ℕ, suc, ◌<◌, List, [], ◌∷◌, ◌++◌, map, length, IsTrue, Some, slice_get, if◌then◌else◌}
-use Rattle.std.specs.List.{AllByRecursion}
+use Rattle.std.specs.Prelude.{◌≡◌, ℕ, suc, ◌<◌, ◌^◌, List, [], ◌∷◌, ◌++◌, IsTrue, Some, IsSome, slice_get, if◌then◌else◌}
 use Rattle.yew_laws.specs.Order.{comes_before}
-use Rattle.yew_laws.specs.SearchTree.{SearchTree}
+use Rattle.yew_laws.specs.SearchTree.{SearchTree, at_path}
 use Rattle.yew_log.specs.Items.{Item, items_of}
 use Rattle.yew_ranked.specs.declared.task.RankedTask.{RankedTask}
 
@@ -28,3 +27,8 @@ tasks_of_tree t depth = tasks_from 0 (items_of t depth)
 pub record IsBetween (items : List Item) (rank : ℕ) (path : List ℕ) : Type 0 where
   pub after : (r : ℕ) (item : Item) → slice_get items r ≡ Some item → r < rank → IsTrue (comes_before item.path path)
   pub before : (r : ℕ) (item : Item) → slice_get items r ≡ Some item → (r < rank → ⊥) → IsTrue (comes_before path item.path)
+
+-- the task's number is below 2^20, and its path is one of the tree
+pub record IsTaskOf {N : Type 0} (t : SearchTree N) (task : RankedTask) : Type 0 where
+  pub few : task.rank < 2 ^ 20
+  pub there : IsSome (at_path t task.path.numbers)

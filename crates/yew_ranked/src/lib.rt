@@ -9,6 +9,7 @@
 mod claim_steps;
 mod claim_view;
 mod claims;
+mod frontier;
 mod laws;
 mod station;
 mod task;
@@ -16,5 +17,5 @@ mod task;
 mod tests;
 
 pub use claims::{ClaimSeat, Claims};
-pub use task::RankedTask;
 pub use laws::{answers_gather, frontier_has_the_items, items_rise, ranked_keys_find_the_first};
+pub use task::RankedTask;
