@@ -64,7 +64,8 @@ module _ {N : Type 0} (t : SearchTree N) (depth : ℕ) (deep : 1 ≤ depth) wher
       let items : items_of t depth ≡ noted_items p.before ++ item ∷ noted_items p.after = sym items-are ∙ (ap noted_items p.stands ∙ noted_items-append p.before (visit_note v ∷ p.after)) in
       record {
         item = item;
-        found = subst (λ (is : List Item). slice_get is v.item ≡ Some item) (sym items) (subst (λ (k : ℕ). slice_get (noted_items p.before ++ item ∷ noted_items p.after) k ≡ Some item) (sym p.item_is) (item-at (noted_items p.before) item (noted_items p.after)));
+        found = subst (λ (is : List Item). slice_get is v.item ≡ Some item) (sym items) (subst (λ (k : ℕ). slice_get (noted_items p.before ++ item ∷ noted_items p.after) k ≡ Some item) (sym p.item_is) (item-at
+            (noted_items p.before) item (noted_items p.after)));
         within = inl refl;
       }
 
@@ -76,7 +77,8 @@ module _ {N : Type 0} (t : SearchTree N) (depth : ℕ) (deep : 1 ≤ depth) wher
 
   module _ {S : Type 0} (join : S → S → S) (none : S) (of : N → ℕ → S) where
     -- the walk came to its end
-    pub so_far-walked : (begun : LogView) (first : SeatView) (now : FrontierState S) → IsSoFar t join none of begun (frontier_log t (depth - 1)) now → first.offered ≡ [] → now.seat.best ≡ first.best → now.seat.share ≡ first.share → 65535 ≤ now.hand.path.space
+    pub so_far-walked : (begun : LogView) (first : SeatView) (now : FrontierState S) → IsSoFar t join none of begun (frontier_log t
+        (depth - 1)) now → first.offered ≡ [] → now.seat.best ≡ first.best → now.seat.share ≡ first.share → 65535 ≤ now.hand.path.space
         → IsFrontierWalked t join none of depth first now.seat now.hand now.tasks
     so_far-walked begun first now w none_offered best_is share_is space =
         let few = w.few in

@@ -57,20 +57,23 @@ module _ {S M K Sum : Type 0} (meaning : Ghosts S M K) (problem : S) (join : Sum
     pub is_word : IsWord w word
     pub held_is : word / 2 ^ 20 ≡ visited_worth notes
 
-  word-read : (begun : LogView) (notes : List Note) (old : FrontierState Sum) (word : ℕ) (w : IsSoFar (search_tree meaning problem) join none of begun notes old) → old.seat.share ≡ old.seat.best.seats → IsRead old.seat word → IsReadWord notes w.visited word
+  word-read : (begun : LogView) (notes : List Note) (old : FrontierState Sum) (word : ℕ) (w : IsSoFar (search_tree meaning problem) join none of begun notes old) → old.seat.share ≡ old.seat.best.seats
+      → IsRead old.seat word → IsReadWord notes w.visited word
   word-read begun notes old word w whole r =
       let is_word = read-word w.visited old.seat word w.offered_is whole r in
       record { is_word = is_word; held_is = held-greatest w.visited word is_word ∙ ap (λ js. maximum (values js)) w.visits_are }
 
   -- the key of an earlier visit is the word
-  earlier-visit : (begun : LogView) (notes : List Note) (old : FrontierState Sum) (path : List ℕ) (word : ℕ) (w : IsSoFar (search_tree meaning problem) join none of begun notes old) → path ≢ [] → IsAfterRoot path notes → IsReadWord notes w.visited word
+  earlier-visit : (begun : LogView) (notes : List Note) (old : FrontierState Sum) (path : List ℕ) (word : ℕ) (w : IsSoFar (search_tree meaning problem) join none of begun notes old) → path ≢ []
+      → IsAfterRoot path notes → IsReadWord notes w.visited word
       → (v : RankedJudgement) × Contains w.visited v × (word ≡ key_of_judgement v)
   earlier-visit begun notes old path word w inner after r =
       let some = after-root path notes inner after in
       let same : length w.visited ≡ length (visits notes) = sym (length-map w.visited plain_judgement) ∙ ap length w.visits_are in
       word-of_visit w.visited word (omega (arith, some, same)) r.is_word
 
-  due-held : (begun : LogView) (notes : List Note) (old : FrontierState Sum) (path : List ℕ) (node : M) (word : ℕ) (w : IsSoFar (search_tree meaning problem) join none of begun notes old) → IsAfterRoot path notes → IsReadWord notes w.visited word
+  due-held : (begun : LogView) (notes : List Note) (old : FrontierState Sum) (path : List ℕ) (node : M) (word : ℕ) (w : IsSoFar (search_tree meaning problem) join none of begun notes old) → IsAfterRoot path notes
+      → IsReadWord notes w.visited word
       → (path ≡ []) ⊎ (word < ranked_key old.next (meaning.bound problem node)) → (path ≡ []) ⊎ (visited_worth notes < meaning.bound problem node)
   due-held begun notes old [] node word w after r due = inl refl
   due-held begun notes old (k ∷ path) node word w after r (inl root) = absurd (cc)
@@ -82,7 +85,8 @@ module _ {S M K Sum : Type 0} (meaning : Ghosts S M K) (problem : S) (join : Sum
       let held = r.held_is in
       inr (omega (arith, over, held))
 
-  cut-held : (begun : LogView) (notes : List Note) (old : FrontierState Sum) (path : List ℕ) (node : M) (word : ℕ) (w : IsSoFar (search_tree meaning problem) join none of begun notes old) → path ≢ [] → IsAfterRoot path notes → IsReadWord notes w.visited word
+  cut-held : (begun : LogView) (notes : List Note) (old : FrontierState Sum) (path : List ℕ) (node : M) (word : ℕ) (w : IsSoFar (search_tree meaning problem) join none of begun notes old) → path ≢ []
+      → IsAfterRoot path notes → IsReadWord notes w.visited word
       → ranked_key old.next (meaning.bound problem node) ≤ word → meaning.bound problem node ≤ visited_worth notes
   cut-held begun notes old path node word w inner after r permitted =
       let v = earlier-visit begun notes old path word w inner after r in
@@ -94,7 +98,8 @@ module _ {S M K Sum : Type 0} (meaning : Ghosts S M K) (problem : S) (join : Sum
 
   -- the first entry of a node that is visited
   visit-first : (levels : ℕ) (path : List ℕ) (node : M) (held : ℕ) → (path ≡ []) ⊎ (held < meaning.bound problem node)
-      → let t = search_tree meaning problem in entered_notes t levels path node held ≡ visited path (meaning.worth problem node) held ∷ (children_notes t levels path 0 (meaning.children problem node) (max held (meaning.worth problem node)) ++ ended path ∷ [])
+      → let t = search_tree meaning problem in entered_notes t levels path node held ≡ visited path (meaning.worth problem node) held ∷ (children_notes t levels path 0 (meaning.children problem node) (max held
+      (meaning.worth problem node)) ++ ended path ∷ [])
   visit-first levels path node held due =
       entered-visit (search_tree meaning problem) levels path node held due ∙ frontier_notes-children (search_tree meaning problem) levels path node held
 

@@ -24,7 +24,8 @@ use Rattle.yew_ranked.proofs.NotedItems.{noted_items-append, frontier_notes-chil
 
 module _ {N S : Type 0} (t : SearchTree N) (join : S → S → S) (none : S) (of : N → ℕ → S) where
   -- no child was dealt with yet
-  pub among-start : (levels : ℕ) (path : List ℕ) (children : List N) (begun : LogView) (notes : List Note) (now : FrontierState S) → IsSoFar t join none of begun notes now → IsAmongChildren t join none of levels path children begun notes 0 children now
+  pub among-start : (levels : ℕ) (path : List ℕ) (children : List N) (begun : LogView) (notes : List Note) (now : FrontierState S) → IsSoFar t join none of begun notes now
+      → IsAmongChildren t join none of levels path children begun notes 0 children now
   among-start levels path children begun notes now w = record {
     done = [];
     so_far = subst (λ (ns : List Note). IsSoFar t join none of begun ns now) (sym (append-nil notes)) w;
@@ -86,7 +87,8 @@ module _ {N S : Type 0} (t : SearchTree N) (join : S → S → S) (none : S) (of
       → entered_notes t levels path node (visited_worth notes) ≡ (e.note ∷ a.done) ++ (children_notes t levels path number left (visited_worth ((notes ++ e.note ∷ []) ++ a.done)) ++ ended path ∷ [])
   entered-split levels path node begun notes mid now number left e a =
       let later = children_notes t levels path number left (visited_worth ((notes ++ e.note ∷ []) ++ a.done)) in
-      let held : max (visited_worth notes) (t.worth node) ≡ visited_worth (notes ++ e.note ∷ []) = sym (worth-append notes (e.note ∷ []) ∙ ap (λ (n : Note). max (visited_worth notes) (visited_worth (n ∷ []))) e.note_is ∙ ap (max (visited_worth notes)) (only (t.worth node))) in
+      let held : max (visited_worth notes) (t.worth node) ≡ visited_worth (notes ++ e.note ∷ []) = sym (worth-append notes (e.note ∷ []) ∙ ap (λ (n : Note). max (visited_worth notes) (visited_worth
+      (n ∷ []))) e.note_is ∙ ap (max (visited_worth notes)) (only (t.worth node))) in
       e.entered levels
       ∙ (frontier_notes-children t levels path node (visited_worth notes)
       ∙ (ap₂ (λ (n : Note) (ns : List Note). n ∷ (ns ++ ended path ∷ [])) (sym e.note_is) (ap (children_notes t levels path 0 (t.children node)) held ∙ a.stands)
@@ -212,7 +214,8 @@ module _ {N S : Type 0} (t : SearchTree N) (join : S → S → S) (none : S) (of
       let goes = f begun ns here.so_far (subst (λ (p : List ℕ). IsAfterRoot p ns) (sym path_is) (child-after_root path number ns (visits-more notes here.done some))) in
       subst (λ (n : ℕ). IsAmongChildren t join none of (suc levels) path children begun notes n left now) (sym after_is)
       (among-entered t join none of levels path children begun notes number child left old now here
-      (subst (λ (p : List ℕ). IsSoFar t join none of begun (ns ++ entered_notes t levels p child (visited_worth ns)) now) path_is (subst (λ (l : ℕ). IsSoFar t join none of begun (ns ++ entered_notes t l child_path child (visited_worth ns)) now) same goes)))
+      (subst (λ (p : List ℕ). IsSoFar t join none of begun (ns ++ entered_notes t levels p child (visited_worth ns)) now) path_is (subst (λ (l : ℕ). IsSoFar t join none of begun
+      (ns ++ entered_notes t l child_path child (visited_worth ns)) now) same goes)))
 
   pub spawn-stops : (levels : ℕ) (path child_path : List ℕ) (node : N) (begun : LogView) (notes : List Note) (old mid now : FrontierState S) (number : ℕ) (child : N) (left rest : List N) (log : LogView) (fault : SearchFault)
       → levels ≡ 0 → child_path ≡ path ++ number ∷ [] → rest ≡ child ∷ left → IsSoFar t join none of begun notes old

@@ -70,7 +70,8 @@ alone : (path : List ℕ) → AreAtOrBelow path (path ∷ [])
 alone path = record { inside = (record { rest = []; is = sym (append-nil path) }, tt); rise = (tt, tt) }
 
 module _ {N : Type 0} where
-  in_turn-places : (made : List ℕ → N → ℕ → List Note) → ((p : List ℕ) (c : N) (h : ℕ) → AreAtOrBelow p (places (made p c h))) → (path : List ℕ) (k : ℕ) (cs : List N) (h : ℕ) → AreInChildren path k (places (in_turn visited_worth made path k cs h))
+  in_turn-places : (made : List ℕ → N → ℕ → List Note) → ((p : List ℕ) (c : N) (h : ℕ) → AreAtOrBelow p (places (made p c h))) → (path : List ℕ) (k : ℕ) (cs : List N) (h : ℕ) → AreInChildren path k (places
+      (in_turn visited_worth made path k cs h))
   in_turn-places made each path k [] h = record { inside = tt; rise = tt }
   in_turn-places made each path k (c ∷ cs) h =
       let notes = made (path ++ k ∷ []) c h in
@@ -101,7 +102,8 @@ module _ {N : Type 0} (t : SearchTree N) where
   frontier-places zero path n held = visit-places path (t.worth n) held (map spawned (numbered path 0 (t.children n))) (spawned-places path 0 (t.children n))
   frontier-places (suc levels) path n held =
       visit-places path (t.worth n) held (in_turn visited_worth (λ p c h. if nat_le (t.bound c) h then cut p (t.bound c) h ∷ [] else frontier_notes t levels p c h) path 0 (t.children n) (max held (t.worth n)))
-      (in_turn-places (λ p c h. if nat_le (t.bound c) h then cut p (t.bound c) h ∷ [] else frontier_notes t levels p c h) (λ p c h. child p c h (nat_le (t.bound c) h) (frontier-places levels p c h)) path 0 (t.children n) (max held (t.worth n)))
+      (in_turn-places (λ p c h. if nat_le (t.bound c) h then cut p (t.bound c) h ∷ [] else frontier_notes t levels p c h) (λ p c h. child p c h (nat_le (t.bound c) h) (frontier-places levels p c h)) path 0
+      (t.children n) (max held (t.worth n)))
     where
       child : (p : List ℕ) (c : N) (h : ℕ) (b : Bool) → AreAtOrBelow p (places (frontier_notes t levels p c h)) → AreAtOrBelow p (places (if b then cut p (t.bound c) h ∷ [] else frontier_notes t levels p c h))
       child p c h true a = alone p
@@ -147,7 +149,8 @@ module _ {N : Type 0} (t : SearchTree N) where
   pub cut-between : (levels : ℕ) (before after : List Note) (path : List ℕ) (bound held : ℕ) → frontier_log t levels ≡ before ++ cut path bound held ∷ after
       → IsBetween (noted_items before ++ noted_items after) (length (noted_items before)) path
   cut-between levels before after path bound held stands =
-      let inside = rising-inside (places before) path (places after) (subst Rising (flat_map-append place_in before (cut path bound held ∷ after)) (subst (λ (notes : List Note). Rising (places notes)) stands (frontier-places t levels [] t.root 0).rise)) in
+      let inside = rising-inside (places before) path (places after) (subst Rising (flat_map-append place_in before (cut path bound held ∷ after)) (subst (λ (notes : List Note). Rising (places notes)) stands
+      (frontier-places t levels [] t.root 0).rise)) in
       record {
         after = λ r item found less. early (noted_items before) (noted_items after) r item (λ (i : Item). IsTrue (comes_before i.path path)) found less (items-places (λ (q : List ℕ). IsTrue (comes_before q path)) before inside.earlier);
         before = λ r item found not. late (noted_items before) (noted_items after) r item (λ (i : Item). IsTrue (comes_before path i.path)) found not (items-places (λ (q : List ℕ). IsTrue (comes_before path q)) after inside.later);

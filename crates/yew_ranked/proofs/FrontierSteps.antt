@@ -1,5 +1,6 @@
 -- The steps of the walk above the depth: a node is visited or cut, a child becomes a task, and a visit ends.
-use Rattle.std.proofs.Common.{◌≡◌, ℕ, zero, suc, ◌+◌, ◌/◌, ◌^◌, ◌<◌, ◌≤◌, ◌⊎◌, List, [], ◌∷◌, ◌++◌, map, length, max, ◌==◌, if◌then◌else◌, Some, None, refl, ap, ap₂, sym, subst, ◌∙◌, inl, inr, append_assoc, append-nil, arith, length-append, All}
+use Rattle.std.proofs.Common.{◌≡◌, ℕ, zero, suc, ◌+◌, ◌/◌, ◌^◌, ◌<◌, ◌≤◌, ◌⊎◌, List, [], ◌∷◌, ◌++◌, map, length, max}
+use Rattle.std.proofs.Common.{◌==◌, if◌then◌else◌, Some, None, refl, ap, ap₂, sym, subst, ◌∙◌, inl, inr, append_assoc, append-nil, arith, length-append, All}
 use Rattle.std.specs.Prelude.{IsTrue}
 use Rattle.std.specs.List.{AllByRecursion, Contains, flat_map}
 use Rattle.std.proofs.lemmas.List.{map-append}
@@ -94,7 +95,11 @@ greatest-at_most (v ∷ vs) b a = let rest = greatest-at_most vs b a.1 in let fi
 
 greatest-each : (vs : List RankedJudgement) → AllByRecursion (λ (v : RankedJudgement). v.value ≤ maximum (values (map plain_judgement vs))) vs
 greatest-each [] = tt
-greatest-each (v ∷ vs) = (omega arith, AllByRecursion-weaker (λ (u : RankedJudgement). u.value ≤ maximum (values (map plain_judgement vs))) (λ (u : RankedJudgement). u.value ≤ max v.value (maximum (values (map plain_judgement vs)))) (λ u h. omega (arith, h)) vs (greatest-each vs))
+greatest-each (v ∷ vs) = (
+  omega arith,
+  AllByRecursion-weaker (λ (u : RankedJudgement). u.value ≤ maximum (values (map plain_judgement vs))) (λ (u : RankedJudgement). u.value ≤ max v.value (maximum (values
+      (map plain_judgement vs)))) (λ u h. omega (arith, h)) vs (greatest-each vs),
+)
 
 pub of-contained : {X : Type 0} (P : X → Type 0) (xs : List X) (x : X) → AllByRecursion P xs → Contains xs x → P x
 of-contained P xs x a c = All-contains P xs x (All-from_recursion P xs a) c
@@ -182,7 +187,8 @@ module _ {N S : Type 0} (t : SearchTree N) {fits : S → Type 0} {join : S → S
         numbers_below = AllByRecursion-append (λ (u : RankedJudgement). u.item < now.next) w.visited (v ∷ [])
             (AllByRecursion-weaker (λ (u : RankedJudgement). u.item < old.next) (λ (u : RankedJudgement). u.item < now.next) (λ u less. omega (arith, less, next_is)) w.visited w.numbers_below) (omega (arith, next_is), tt);
         permitted = w.permitted;
-        offered = AllByRecursion-weaker (λ (c : RankedJudgement). (c.word ≡ 0) ⊎ IsOfferedBefore w.visited c) (λ (c : RankedJudgement). (c.word ≡ 0) ⊎ IsOfferedBefore (w.visited ++ v ∷ []) c) (offered-more w.visited (v ∷ [])) w.cut w.offered;
+        offered = AllByRecursion-weaker (λ (c : RankedJudgement). (c.word ≡ 0) ⊎ IsOfferedBefore w.visited c) (λ (c : RankedJudgement). (c.word ≡ 0) ⊎ IsOfferedBefore (w.visited ++ v ∷ []) c) (offered-more w.visited
+            (v ∷ [])) w.cut w.offered;
         next_is = next_is ∙ (ap suc w.next_is ∙ (one (length (noted_items notes)) ∙ sym (ap length items ∙ length-append (noted_items notes) (noted_item note))));
         few = omega (arith, next_is, few);
         tasks_are = step.tasks_are ∙ (w.tasks_are ∙ sym (ap (tasks_from 0) items ∙ (tasks_from-append 0 (noted_items notes) (noted_item note) ∙ append-nil (tasks_from 0 (noted_items notes)))));
@@ -208,7 +214,8 @@ module _ {N S : Type 0} (t : SearchTree N) (join : S → S → S) (none : S) (of
     pub cuts_are : map plain_judgement cs ≡ cut_in note
     pub entries_are : AllByRecursion (λ (c : RankedJudgement). (cut_note c ≡ note) × (c.item ≡ old.next)) cs
     pub permitted : AllByRecursion (λ (c : RankedJudgement). key_of_judgement c ≤ c.word) cs
-    pub offered : (vs : List RankedJudgement) → old.seat.offered ≡ map key_of_judgement vs → AllByRecursion (λ (v : RankedJudgement). v.item < old.next) vs → AllByRecursion (λ (c : RankedJudgement). (c.word ≡ 0) ⊎ IsOfferedBefore vs c) cs
+    pub offered : (vs : List RankedJudgement) → old.seat.offered ≡ map key_of_judgement vs → AllByRecursion (λ (v : RankedJudgement). v.item < old.next) vs → AllByRecursion (λ (c : RankedJudgement).
+        (c.word ≡ 0) ⊎ IsOfferedBefore vs c) cs
     pub next_is : now.next ≡ old.next + length (noted_item note)
     pub few : now.next ≤ 2 ^ 20
     pub tasks_are : now.tasks ≡ old.tasks ++ tasks_from old.next (noted_item note)
@@ -238,7 +245,8 @@ module _ {N S : Type 0} (t : SearchTree N) (join : S → S → S) (none : S) (of
         offered = AllByRecursion-append (λ (c : RankedJudgement). (c.word ≡ 0) ⊎ IsOfferedBefore w.visited c) w.cut cs w.offered (step.offered w.visited w.offered_is w.numbers_below);
         next_is = next_is ∙ (ap (λ (n : ℕ). n + length (noted_item note)) w.next_is ∙ sym (ap length items ∙ length-append (noted_items notes) (noted_item note)));
         few = step.few;
-        tasks_are = step.tasks_are ∙ (ap₂ (λ (xs : List Numbered) (n : ℕ). xs ++ tasks_from n (noted_item note)) w.tasks_are (w.next_is ∙ from-zero (length (noted_items notes))) ∙ sym (ap (tasks_from 0) items ∙ tasks_from-append 0 (noted_items notes) (noted_item note)));
+        tasks_are = step.tasks_are ∙ (ap₂ (λ (xs : List Numbered) (n : ℕ). xs ++ tasks_from n (noted_item note)) w.tasks_are (w.next_is ∙ from-zero (length (noted_items notes))) ∙ sym (ap
+            (tasks_from 0) items ∙ tasks_from-append 0 (noted_items notes) (noted_item note)));
         tasks_there = subst (AllByRecursion (IsTaskThere t)) (sym step.tasks_are) (AllByRecursion-append (IsTaskThere t) old.tasks (tasks_from old.next (noted_item note)) w.tasks_there step.tasks_there);
         log_is = step.log_is ∙ (ap (λ (log : LogView). log_after log (note ∷ [])) w.log_is ∙ sym (log_after-append begun notes (note ∷ [])));
         offered_is = step.offered_is ∙ w.offered_is;

@@ -91,12 +91,14 @@ module _ {N : Type 0} (t : SearchTree N) where
   frontier_log-noted levels = frontier-noted levels [] t.root 0
 
   -- the entries of a visited node: its visit, those of its children, and its end
-  pub frontier_notes-children : (levels : ℕ) (path : List ℕ) (n : N) (held : ℕ) → frontier_notes t levels path n held ≡ visited path (t.worth n) held ∷ (children_notes t levels path 0 (t.children n) (max held (t.worth n)) ++ ended path ∷ [])
+  pub frontier_notes-children : (levels : ℕ) (path : List ℕ) (n : N) (held : ℕ) → frontier_notes t levels path n held ≡ visited path (t.worth n) held ∷ (children_notes t levels path 0 (t.children n) (max held
+      (t.worth n)) ++ ended path ∷ [])
   frontier_notes-children zero path n held = refl
   frontier_notes-children (suc levels) path n held = refl
 
   -- a child is no root
-  pub entered_notes-child : (levels : ℕ) (path : List ℕ) (k : ℕ) (c : N) (h : ℕ) → entered_notes t levels (path ++ k ∷ []) c h ≡ (if nat_le (t.bound c) h then cut (path ++ k ∷ []) (t.bound c) h ∷ [] else frontier_notes t levels (path ++ k ∷ []) c h)
+  pub entered_notes-child : (levels : ℕ) (path : List ℕ) (k : ℕ) (c : N) (h : ℕ) → entered_notes t levels (path ++ k ∷ []) c h ≡ (if nat_le (t.bound c) h then cut (path ++ k ∷ [])
+      (t.bound c) h ∷ [] else frontier_notes t levels (path ++ k ∷ []) c h)
   entered_notes-child levels [] k c h = refl
   entered_notes-child levels (j ∷ path) k c h = refl
 

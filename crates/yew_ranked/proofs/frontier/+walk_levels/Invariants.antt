@@ -28,8 +28,10 @@ invariant-children g l =
       fits : g.T.Tally.fits l.tally l.hand.sum;
       among : (begun : LogView) (notes : List Note)
           → IsSoFar t (g.T.Tally.join l.tally) (g.T.Tally.none l.tally) (g.T.Tally.of l.tally) begun notes
-          (frontier_state l.initial.seat l.initial.hand (log_view (g.R.Recorder.told l.initial.log) (g.R.Recorder.totals l.initial.log) (g.R.Recorder.number l.initial.log)) l.initial.frontier.next (map numbered_task l.initial.frontier.tasks.items))
+          (frontier_state l.initial.seat l.initial.hand (log_view (g.R.Recorder.told l.initial.log) (g.R.Recorder.totals l.initial.log) (g.R.Recorder.number l.initial.log)) l.initial.frontier.next
+          (map numbered_task l.initial.frontier.tasks.items))
           → 0 < length (visits notes)
-          → IsAmongChildren t (g.T.Tally.join l.tally) (g.T.Tally.none l.tally) (g.T.Tally.of l.tally) l.levels l.fn.frontier.path.numbers (g.P.Problem.children l.problem l.fn.node) begun notes l.number (g.P.Problem.remaining l.problem l.kids)
+          → IsAmongChildren t (g.T.Tally.join l.tally) (g.T.Tally.none l.tally) (g.T.Tally.of l.tally) l.levels l.fn.frontier.path.numbers (g.P.Problem.children l.problem l.fn.node) begun notes l.number
+          (g.P.Problem.remaining l.problem l.kids)
           (frontier_state l.seat l.hand (log_view (g.R.Recorder.told l.log) (g.R.Recorder.totals l.log) (g.R.Recorder.number l.log)) l.frontier.next (map numbered_task l.frontier.tasks.items));
     }
