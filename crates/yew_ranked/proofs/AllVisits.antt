@@ -202,7 +202,9 @@ module _ {N : Type 0} (t : SearchTree N) (depth : ℕ) where
         own-cause before w after once began others heard c i (of_base x) =
             let u = contains-of key_of_judgement fv c.word (all-at Began (before ++ w ∷ after) w began (Contains-append_right before (w ∷ after) w (0, omega arith, refl)) c.word x) in
             inr record {
-              visit = u.0; among = Contains-append_left fv (flat_map visits_by (before ++ w ∷ after)) u.0 u.1; word_is = sym u.2;
+              visit = u.0;
+              among = Contains-append_left fv (flat_map visits_by (before ++ w ∷ after)) u.0 u.1;
+              word_is = sym u.2;
               earlier = λ e. absurd (apart u.0 u.1 w.places c i e);
             }
         own-cause before w after once began others heard c i (of_visit o) =
@@ -224,14 +226,18 @@ module _ {N : Type 0} (t : SearchTree N) (depth : ℕ) where
                 (λ (f : Contains (map key_of_judgement fv) c.word).
                 let u = contains-of key_of_judgement fv c.word f in
                 inr record {
-                  visit = u.0; among = Contains-append_left fv (flat_map visits_by (before ++ w ∷ after)) u.0 u.1; word_is = sym u.2;
+                  visit = u.0;
+                  among = Contains-append_left fv (flat_map visits_by (before ++ w ∷ after)) u.0 u.1;
+                  word_is = sym u.2;
                   earlier = λ e. absurd (apart u.0 u.1 w.places c i e);
                 })
                 (λ (f : Contains (map key_of_judgement (flat_map visits_by (before ++ after))) c.word).
                 let u = contains-of key_of_judgement (flat_map visits_by (before ++ after)) c.word f in
                 let at = all-at (IsAtPlaces t depth (flat_map places_by (before ++ after))) (flat_map visits_by (before ++ after)) u.0 (visits-at (before ++ after)) u.1 in
                 inr record {
-                  visit = u.0; among = Contains-append_right fv (flat_map visits_by (before ++ w ∷ after)) u.0 (more u.0 u.1); word_is = sym u.2;
+                  visit = u.0;
+                  among = Contains-append_right fv (flat_map visits_by (before ++ w ∷ after)) u.0 (more u.0 u.1);
+                  word_is = sym u.2;
                   earlier = λ e. absurd (items-apart w.places (flat_map places_by (before ++ after)) (once-between places_by before w after once) c u.0 i at (sym e));
                 })
                 (offers-keys (before ++ after) others c.word o)

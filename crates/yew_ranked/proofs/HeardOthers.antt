@@ -63,12 +63,11 @@ module _ {W : Type 0} (seat_of : W → SeatView) where
       ap (λ l. l ++ other.offered) is ∙ sym (flat_map-append (λ w. (seat_of w).offered) before (w ∷ []) ∙ ap (λ l. offers before ++ l) (append-nil other.offered)) in
       let rest = heard-rest (joined_seat seat other) (before ++ w ∷ []) ws now none in
       let own = unoffered-or (IsOf ws) other.offered seat.heard (all-front (IsOf ws) (unoffered other.offered seat.heard) (unoffered seat.offered other.heard) rest.0) in
-      let its = unoffered-or (IsOf ws) seat.offered other.heard (all-back (IsOf ws) (unoffered other.offered seat.heard) (unoffered seat.offered other.heard) rest.0) in
-      (
+      let its = unoffered-or (IsOf ws) seat.offered other.heard (all-back (IsOf ws) (unoffered other.offered seat.heard) (unoffered seat.offered other.heard) rest.0) in (
         AllByRecursion-weaker (λ x. Contains other.offered x ⊎ IsOf ws x) (IsOf (w ∷ ws)) (of-front w ws) seat.heard own,
         (
           AllByRecursion-weaker (λ x. Contains seat.offered x ⊎ IsOf ws x) (IsOf (before ++ ws))
-          (λ x c. of-before before ws x (subst (λ l. Contains l x ⊎ IsOf ws x) is c)) other.heard its,
+              (λ x c. of-before before ws x (subst (λ l. Contains l x ⊎ IsOf ws x) is c)) other.heard its,
           rest.1,
         ),
       )

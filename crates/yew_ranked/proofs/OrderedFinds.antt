@@ -141,8 +141,8 @@ module _ {N S R : Type 0} (t : SearchTree N) (join : S → S → S) (none : S) (
         let rest_ones = members_of t join none of seen levels tally of_fits (first ∷ others) (after ∷ afters) (done, rest) in
         let both = works-members t join none of seen levels tally of_fits (first ∷ others) (after ∷ afters) (done, rest) in (
           map-append (λ (m : Member N). m.path) first_is.frontier.members rest_ones
-          ∙ (ap₂ (λ (x y : List (List ℕ)). x ++ y) frontier-visited.paths_are both.0
-          ∙ sym (visited-append (frontier_log t levels) (entries (segments_of (flat_map (walks_by t levels) (one ∷ more)))))),
+              ∙ (ap₂ (λ (x y : List (List ℕ)). x ++ y) frontier-visited.paths_are both.0
+              ∙ sym (visited-append (frontier_log t levels) (entries (segments_of (flat_map (walks_by t levels) (one ∷ more)))))),
           AllByRecursion-append (λ (m : Member N). at_path t m.path ≡ Some m.node) first_is.frontier.members rest_ones frontier-visited.there both.1,
         )
 

@@ -76,7 +76,7 @@ module _ {N : Type 0} (t : SearchTree N) (levels : ℕ) where
       let other = are.0.0 in
       let rank = ranks-rise t (suc levels) p q task other there are.0.1 less.0 in (
         subst (λ (path : List ℕ). IsTrue (comes_before task.path path)) (sym are.0.2.task_is)
-        (in_items-rise t (suc levels) task.rank other.rank task.path other.path (task-within p task there) (task-within q other are.0.1) rank),
+            (in_items-rise t (suc levels) task.rank other.rank task.path other.path (task-within p task there) (task-within q other are.0.1) rank),
         tasks-before p task there qs ws are.1 less.1,
       )
 

@@ -60,8 +60,15 @@ module _ {N S R : Type 0} (t : SearchTree N) (join : S → S → S) (none : S) (
   -- what it has done
   abbrev pub worked : (before after : Station) → IsFinished before after → part t levels
   worked before after d = record {
-    first = before.best; now = d.now.best; places = d.working.places; last = d.last; walks = d.working.walks;
-    are_walks = d.working.are_walks; goes = d.working.goes; rising = d.working.rising; past = d.past;
+    first = before.best;
+    now = d.now.best;
+    places = d.working.places;
+    last = d.last;
+    walks = d.working.walks;
+    are_walks = d.working.are_walks;
+    goes = d.working.goes;
+    rising = d.working.rising;
+    past = d.past;
   }
 
   -- there is a finished worker for each station, in order

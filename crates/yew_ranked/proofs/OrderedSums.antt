@@ -68,8 +68,8 @@ module _ {N S R : Type 0} (t : SearchTree N) (join : S → S → S) (none : S) (
       let more = works-members befores afters are.1 in
       let rest = flat_map (walks_by t levels) (works t join none of seen levels befores afters are.1) in (
         map-append (λ (m : Member N). m.path) ms (members_of befores afters are.1)
-        ∙ (ap₂ (λ (x y : List (List ℕ)). x ++ y) are.0.working.are_visited.paths_are more.0
-        ∙ (sym (visited-append (entries (segments_of walks)) (entries (segments_of rest)))
-        ∙ ap visited_paths (sym (flat_map-append entries_in (segments_of walks) (segments_of rest)) ∙ ap entries (sym (map-append (λ (k : KeyedSegment). k.segment) walks rest))))),
+            ∙ (ap₂ (λ (x y : List (List ℕ)). x ++ y) are.0.working.are_visited.paths_are more.0
+            ∙ (sym (visited-append (entries (segments_of walks)) (entries (segments_of rest)))
+            ∙ ap visited_paths (sym (flat_map-append entries_in (segments_of walks) (segments_of rest)) ∙ ap entries (sym (map-append (λ (k : KeyedSegment). k.segment) walks rest))))),
         AllByRecursion-append (λ (m : Member N). at_path t m.path ≡ Some m.node) ms (members_of befores afters are.1) are.0.working.are_visited.there more.1,
       )

@@ -142,9 +142,9 @@ module _ {N : Type 0} (t : SearchTree N) (levels : ℕ) where
       let rest = walks-valued ws a.1 in
       let valued = a.0.1.is_segment.valued in (
         subst (AllByRecursion (λ (v : Judgement). worth_at t v.path ≡ Some v.value)) (sym (flat_map-append visit_in (entries_in w.segment) (entries (segments_of ws))))
-        (AllByRecursion-append (λ (v : Judgement). worth_at t v.path ≡ Some v.value) (visits w.segment.body) (visits (entries (segments_of ws))) valued.worths rest.0),
+            (AllByRecursion-append (λ (v : Judgement). worth_at t v.path ≡ Some v.value) (visits w.segment.body) (visits (entries (segments_of ws))) valued.worths rest.0),
         subst (AllByRecursion (λ (c : Judgement). bound_at t c.path ≡ Some c.value)) (sym (flat_map-append cut_in (entries_in w.segment) (entries (segments_of ws))))
-        (AllByRecursion-append (λ (c : Judgement). bound_at t c.path ≡ Some c.value) (cuts w.segment.body) (cuts (entries (segments_of ws))) valued.bounds rest.1),
+            (AllByRecursion-append (λ (c : Judgement). bound_at t c.path ≡ Some c.value) (cuts w.segment.body) (cuts (entries (segments_of ws))) valued.bounds rest.1),
       )
 
   module _ {sound : N → Type 0} (ranked : IsRanked sound t.children t.rank) (root : sound t.root)

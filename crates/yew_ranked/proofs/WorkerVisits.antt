@@ -137,9 +137,9 @@ module _ {N : Type 0} (t : SearchTree N) (depth : ℕ) where
       let more = on-read ps ws goes.0 now are.1 goes.2 in
       let later = goes_on-in ws ps goes.0 now are.1 goes.2 in (
         AllByRecursion-append (λ (j : RankedJudgement). Contains now.read j.word) vs (on_visits ps ws goes.0 now are.1 goes.2)
-        (AllByRecursion-weaker (λ (j : RankedJudgement). Contains goes.0.read j.word) (λ (j : RankedJudgement). Contains now.read j.word) (λ j c. later.0 j.word c) vs one.0) more.0,
+            (AllByRecursion-weaker (λ (j : RankedJudgement). Contains goes.0.read j.word) (λ (j : RankedJudgement). Contains now.read j.word) (λ j c. later.0 j.word c) vs one.0) more.0,
         AllByRecursion-append (λ (j : RankedJudgement). Contains now.read j.word) cs (on_cuts ps ws goes.0 now are.1 goes.2)
-        (AllByRecursion-weaker (λ (j : RankedJudgement). Contains goes.0.read j.word) (λ (j : RankedJudgement). Contains now.read j.word) (λ j c. later.0 j.word c) cs one.1) more.1,
+            (AllByRecursion-weaker (λ (j : RankedJudgement). Contains goes.0.read j.word) (λ (j : RankedJudgement). Contains now.read j.word) (λ j c. later.0 j.word c) cs one.1) more.1,
       )
 
   -- each cut was permitted by its word
@@ -214,14 +214,14 @@ module _ {N : Type 0} (t : SearchTree N) (depth : ℕ) where
         let inside = segment-inside w.segment are.0.2.is_segment are.0.2.is_broken.in_tree.0 in
         let more = on-places ps ws goes.0 now are.1 goes.2 in (
           AllByRecursion-append (IsAtPlaces (p ∷ ps)) vs (on_visits ps ws goes.0 now are.1 goes.2)
-          (inside-at p ps are.0.0 w are.0.1 are.0.2 vs (visits-item t rank first goes.0 (entries_in w.segment) g)
-          (subst (λ js. AllByRecursion (AtOrBelow w.segment.task) (paths js)) (sym (visits-plain t rank first goes.0 (entries_in w.segment) g)) inside.0))
-          (AllByRecursion-weaker (IsAtPlaces ps) (IsAtPlaces (p ∷ ps)) (places-more p ps) (on_visits ps ws goes.0 now are.1 goes.2) more.0),
+              (inside-at p ps are.0.0 w are.0.1 are.0.2 vs (visits-item t rank first goes.0 (entries_in w.segment) g)
+              (subst (λ js. AllByRecursion (AtOrBelow w.segment.task) (paths js)) (sym (visits-plain t rank first goes.0 (entries_in w.segment) g)) inside.0))
+              (AllByRecursion-weaker (IsAtPlaces ps) (IsAtPlaces (p ∷ ps)) (places-more p ps) (on_visits ps ws goes.0 now are.1 goes.2) more.0),
           AllByRecursion-append (IsAtPlaces (p ∷ ps)) cs (on_cuts ps ws goes.0 now are.1 goes.2)
-          (inside-at p ps are.0.0 w are.0.1 are.0.2 cs
-          (AllByRecursion-weaker (λ (c : RankedJudgement). (c.item ≡ rank) × (key_of_judgement c ≤ c.word)) (λ (c : RankedJudgement). c.item ≡ rank) (λ c x. x.0) cs (cuts-permitted t rank first goes.0 (entries_in w.segment) g))
-          (subst (λ js. AllByRecursion (AtOrBelow w.segment.task) (paths js)) (sym (cuts-plain t rank first goes.0 (entries_in w.segment) g)) inside.1))
-          (AllByRecursion-weaker (IsAtPlaces ps) (IsAtPlaces (p ∷ ps)) (places-more p ps) (on_cuts ps ws goes.0 now are.1 goes.2) more.1),
+              (inside-at p ps are.0.0 w are.0.1 are.0.2 cs
+              (AllByRecursion-weaker (λ (c : RankedJudgement). (c.item ≡ rank) × (key_of_judgement c ≤ c.word)) (λ (c : RankedJudgement). c.item ≡ rank) (λ c x. x.0) cs (cuts-permitted t rank first goes.0 (entries_in w.segment) g))
+              (subst (λ js. AllByRecursion (AtOrBelow w.segment.task) (paths js)) (sym (cuts-plain t rank first goes.0 (entries_in w.segment) g)) inside.1))
+              (AllByRecursion-weaker (IsAtPlaces ps) (IsAtPlaces (p ∷ ps)) (places-more p ps) (on_cuts ps ws goes.0 now are.1 goes.2) more.1),
         )
 
     -- a judgement at later places is of another item

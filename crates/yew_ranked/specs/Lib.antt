@@ -2,9 +2,10 @@ pub mod ClaimRule
 pub mod ClaimSeats
 pub mod ClaimViews
 pub mod Frontier
+pub mod FrontierStates
 pub mod FrontierWalk
-pub mod OrderedSearch
 pub mod Joining
+pub mod OrderedSearch
 pub mod RankedSearch
 pub mod Searching
 pub mod Starting

@@ -244,8 +244,7 @@ fn reach<P: Problem, S: Drop, R: Recorder, G: Gate, H: Threads + Wait + Sync>(
 }
 
 /// Searches the tree of a problem with 1 to 64 workers, each in a thread of its own as far as they can be had, and answers
-/// what a search of one worker does, its path included, whatever the schedule (the ordered skeleton of Archibald, Maier,
-/// Stewart and Trinder, PPoPP 2020).
+/// what a search of one worker does, its path included, whatever the schedule.
 ///
 /// The first worker walks the nodes above `depth`, which is from 1 to 255. Each node at that depth becomes a task, and
 /// these nodes and tasks are the items, numbered in preorder. Then all workers claim the tasks in the order of their
@@ -264,7 +263,13 @@ fn reach<P: Problem, S: Drop, R: Recorder, G: Gate, H: Threads + Wait + Sync>(
 /// `Memory` where memory ran out. `TooManyTasks` where there are more than 2^20 items, so that one would need the number
 /// 2^20. `AuditFull` where the log of a worker that tells its entries had no room for the next one, which is that of the
 /// first worker where there are too many items.
-pub fn search_ordered<P: Problem, T: Tally<P::Node>, R: Recorder, G: Gate, H: Threads + Wait + Sync>(
+pub fn search_ordered<
+    P: Problem,
+    T: Tally<P::Node>,
+    R: Recorder,
+    G: Gate,
+    H: Threads + Wait + Sync,
+>(
     rt: &H,
     alloc: Global,
     problem: &P,

@@ -3,7 +3,7 @@ use yew_laws::Path;
 
 /// A task at the depth of an ordered search: the path of its node, and its number among the items.
 #[derive(Drop)]
-pub struct RankedTask {
+pub(crate) struct RankedTask {
     pub path: Path,
     pub rank: u32,
 }
