@@ -1,5 +1,5 @@
 -- A crew that came to its end without a fault: what its reports tell, what is left, and what the caller walked of it make up a whole search.
-use Rattle.std.proofs.Common.{◌≡◌, ℕ, suc, ◌+◌, ◌%◌, ◌^◌, ◌<◌, ◌≤◌, ◌⊎◌, true, List, [], ◌∷◌, ◌++◌, ◌∙◌, Option, Some, None, All, map, length, refl, sym, ap, ap₂, subst, arith, inl, inr, ⊎_elim, length-append}
+use Rattle.std.proofs.Common.{◌≡◌, ℕ, suc, ◌+◌, ◌^◌, ◌<◌, ◌≤◌, ◌⊎◌, List, [], ◌∷◌, ◌++◌, ◌∙◌, Option, Some, None, All, map, length, refl, sym, ap, ap₂, subst, arith, inl, inr, ⊎_elim, length-append}
 use Rattle.std.specs.List.{AllByRecursion, Contains, sum_by}
 use Rattle.std.specs.Option.{option_map}
 use Rattle.std.proofs.lemmas.List.Elements.{recursion_from_All, All-from_recursion}
@@ -28,7 +28,7 @@ use Rattle.yew_stack.specs.Splits.{paths_of}
 use Rattle.yew_walk.specs.LogViews.{LogView}
 use Rattle.yew_walk.specs.declared.hand.Hand.{Hand}
 use Rattle.yew_crew.specs.Crews.{AreReports, IsCrewWork, IsFresh, stations_of, best_with, tasks_with}
-use Rattle.yew_crew.specs.Groups.{Group, taken, sent, together, all_together}
+use Rattle.yew_crew.specs.Groups.{Group, taken, sent, together}
 use Rattle.yew_crew.specs.Joining.{fault_in, passes_of, seats_of}
 use Rattle.yew_crew.specs.OpenSeats.{OpenSeatView, IsExact}
 use Rattle.yew_crew.specs.Reports.{IsDone, IsEndDone}
@@ -40,6 +40,7 @@ use Rattle.yew_crew.specs.declared.coord.Coord.TheVariants.{Depth}
 use Rattle.yew_crew.specs.declared.station.Report.{Report}
 use Rattle.yew_crew.specs.declared.station.Shared.{Shared}
 use Rattle.yew_crew.specs.declared.station.Station.{Station}
+use Rattle.yew_best.proofs.Heard.{unoffered-nil}
 use Rattle.yew_crew.proofs.CrewOver.{before-first, joined-first, HasBegun, crew-begun, begun-fresh, begun-alone, each-begun, done-of, done-all, new-station, all-ended}
 use Rattle.yew_crew.proofs.CrewWork.{crew-work}
 use Rattle.yew_crew.proofs.Finished.{Finish, all_of}
@@ -51,13 +52,15 @@ use Rattle.yew_crew.proofs.RestEnds.{IsRestWork, AreDone, finishes}
 use Rattle.yew_crew.proofs.RestWork.{rest-work}
 use Rattle.yew_crew.proofs.WholeCrew.{IsCrewEnd, done-worked, all_of-groups}
 
--- the seat of the first worker is joined to one that has read and offered nothing
+-- the seat of the first worker is joined to one that has read, offered and heard nothing
 abbrev before-first_best : SeatView → SeatView
-before-first_best b = record b { share = 0; read = []; offered = [] }
+before-first_best b = record b { share = 0; read = []; offered = []; heard = [] }
 
 module _ {N S R : Type 0} where
   joined-best : (first : Station N S R) (rest : List (Station N S R)) → best_with (before-first_best first.best) (first ∷ rest) ≡ best_with first.best rest
-  joined-best first rest = let z : 0 + first.best.share ≡ first.best.share = omega arith in ap (λ n. best_with (record first.best { share = n }) rest) z
+  joined-best first rest =
+      let z : 0 + first.best.share ≡ first.best.share = omega arith in
+      ap₂ (λ (n : ℕ) (l : List ℕ). best_with (record first.best { share = n; heard = l }) rest) z (unoffered-nil first.best.heard)
 
   -- a joined seat keeps its own last count
   last-kept : (rest : List (Station N S R)) (seat : OpenSeatView) → ((tasks_with seat rest).last ≡ seat.last) × ((tasks_with seat rest).knew ≡ seat.knew)

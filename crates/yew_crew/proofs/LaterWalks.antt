@@ -1,18 +1,16 @@
 -- What a seat has read and offered before is known to all that is read with it later.
-use Rattle.std.proofs.Common.{◌≡◌, ℕ, ◌≤◌, List, [], ◌∷◌, ◌++◌, ◌∙◌, map, refl, sym, ap, subst}
-use Rattle.std.specs.Prelude.{All}
+use Rattle.std.proofs.Common.{◌≡◌, ℕ, ◌≤◌, List, [], ◌∷◌, ◌++◌, map, sym, subst}
 use Rattle.std.specs.List.{AllByRecursion, Contains}
 use Rattle.std.proofs.lemmas.List.Concat.{flat_map-append}
 use Rattle.std.proofs.lemmas.List.Elements.{All-contains, Contains-append_left}
-use Rattle.yew_best.specs.Seats.{SeatView}
-use Rattle.yew_laws.specs.Bag.{SameBag, PartOfBag}
+use Rattle.yew_best.specs.Seats.{SeatView, has_read}
 use Rattle.yew_laws.specs.SearchTree.{SearchTree}
 use Rattle.yew_laws.proofs.Members.{AllByRecursion-append, AllByRecursion-weaker}
 use Rattle.yew_log.specs.HeldValues.{IsLater}
 use Rattle.yew_log.specs.Notes.{Note, taken, visited, cut, spawned, handed, ended, Judgement, judgement_in, judgements, visits, values, held_values}
 use Rattle.yew_log.specs.Segment.{Segment, entries, entries_in}
 use Rattle.yew_walk.specs.declared.keying.Keying.TheVariants.{Plain}
-use Rattle.yew_walk.specs.Seats.{SeatGoes, IsRead, has_read, has_offered}
+use Rattle.yew_walk.specs.Seats.{SeatGoes, IsRead, has_offered}
 use Rattle.yew_walk.specs.WorkerLogs.{SeatGoesOn}
 use Rattle.yew_crew.specs.Working.{plain_walk}
 

@@ -3,14 +3,14 @@ use Rattle.std.proofs.Common.{◌≡◌, ℕ, ◌+◌, ◌≤◌, ◌∙◌, Lis
 use Rattle.std.specs.List.{AllByRecursion, flat_map, sum_by}
 use Rattle.std.proofs.lemmas.List.Concat.{flat_map-append}
 use Rattle.std.proofs.lemmas.List.Sums.{sum_by-append, sum_by-cons}
-use Rattle.yew_best.specs.Seats.{SeatView}
+use Rattle.yew_best.specs.Seats.{SeatView, has_read}
 use Rattle.yew_laws.specs.SearchTree.{SearchTree, below}
 use Rattle.yew_laws.proofs.Members.{AllByRecursion-append}
 use Rattle.yew_log.specs.Lawful.{tasks_of}
 use Rattle.yew_log.specs.Notes.{Note, taken, visited, cut, spawned, handed, ended, Judgement, values, held_values, visits, judgements, judgement_in, visit_in, visited_paths, cut_paths, sent_paths, taken_paths, taken_in}
 use Rattle.yew_log.specs.Segment.{Segment, entries, entries_in, IsSegment, Begins, covered_paths}
 use Rattle.yew_walk.specs.declared.keying.Keying.TheVariants.{Plain}
-use Rattle.yew_walk.specs.Seats.{SeatGoes, has_read, has_offered}
+use Rattle.yew_walk.specs.Seats.{SeatGoes, has_offered}
 use Rattle.yew_walk.specs.WorkerLogs.{SeatGoesOn}
 use Rattle.yew_crew.specs.Working.{plain_walk}
 

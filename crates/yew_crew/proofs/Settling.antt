@@ -1,9 +1,9 @@
 -- A crew that has worked is settled: its seats and passes are all of them, of the shared objects, with the whole shares.
-use Rattle.std.proofs.Common.{◌≡◌, ℕ, ◌+◌, ◌<◌, ◌||◌, List, [], ◌∷◌, ◌++◌, ◌∙◌, All, length, refl, sym, ap, subst, arith}
+use Rattle.std.proofs.Common.{◌≡◌, ℕ, ◌+◌, ◌<◌, ◌||◌, List, [], ◌∷◌, ◌∙◌, All, length, refl, sym, ap, subst, arith}
 use Rattle.std.specs.List.{AllByRecursion, sum_by}
 use Rattle.std.proofs.lemmas.List.Elements.{All-from_recursion}
 use Rattle.std.proofs.lemmas.List.Sums.{sum_by-cons}
-use Rattle.yew_best.specs.Seats.{SeatView}
+use Rattle.yew_best.specs.Seats.{SeatView, joined_seat}
 use Rattle.yew_laws.specs.SearchTree.{SearchTree}
 use Rattle.yew_laws.specs.Tasks.{Members, members_of}
 use Rattle.yew_laws.specs.declared.problem.Task.{Task}
@@ -34,8 +34,7 @@ module _ {N S R : Type 0} where
   best-share : (rest : List (Station N S R)) (seat : SeatView) → (best_with seat rest).share ≡ seat.share + sum_by (λ (x : Station N S R). x.best.share) rest
   best-share [] seat = omega arith
   best-share (s ∷ ss) seat =
-      let other = s.best in
-      let more = best-share ss (record seat { share = seat.share + other.share; read = seat.read ++ other.read; offered = seat.offered ++ other.offered }) in
+      let more = best-share ss (joined_seat seat s.best) in
       let c = sum_by-cons (λ (x : Station N S R). x.best.share) s ss in omega arith
 
   passes-share : (stations : List (Station N S R)) → sum_by (λ (p : PassView (Task N) (Members N)). p.share) (passes_of stations) ≡ sum_by (λ (x : Station N S R). x.pool.share) stations

@@ -1,7 +1,7 @@
 -- What a worker has done whose walk was refused: its whole segments, and one that was broken off.
 use Rattle.std.proofs.Common.{◌≡◌, ℕ, ◌∙◌, List, [], ◌∷◌, ◌++◌, ◌⊎◌, inl, inr, map, refl, sym, ap, subst, append-nil}
 use Rattle.std.specs.List.{AllByRecursion}
-use Rattle.yew_best.specs.Seats.{SeatView}
+use Rattle.yew_best.specs.Seats.{SeatView, has_read}
 use Rattle.yew_laws.specs.SearchTree.{SearchTree}
 use Rattle.yew_laws.proofs.Members.{AllByRecursion-append, AllByRecursion-weaker}
 use Rattle.yew_log.specs.HeldValues.{plain, HeldRises, HeldIsMaximum, IsJudged}
@@ -10,7 +10,7 @@ use Rattle.yew_log.specs.Notes.{Note, taken, visited, cut, spawned, handed, ende
 use Rattle.yew_log.specs.Places.{AtEach}
 use Rattle.yew_log.specs.Segment.{Segment, segment, entries, entries_in, IsSegment, IsBroken, Begins}
 use Rattle.yew_walk.specs.declared.keying.Keying.TheVariants.{Plain}
-use Rattle.yew_walk.specs.Seats.{SeatGoes, has_read, has_offered}
+use Rattle.yew_walk.specs.Seats.{SeatGoes, has_offered}
 use Rattle.yew_walk.specs.WorkerLogs.{SeatGoesOn}
 use Rattle.yew_walk.proofs.WorkerLogs.{walks-rise, walks-judged, walks-exact, goes_on-push}
 use Rattle.yew_crew.specs.Working.{plain_walk, IsWalkSegment}

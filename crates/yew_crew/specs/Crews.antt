@@ -2,7 +2,7 @@
 use Rattle.std.specs.Prelude.{◌≡◌, ℕ, ◌+◌, ◌||◌, List, [], ◌∷◌, ◌++◌, map}
 use Rattle.std.specs.List.{sum_by, flat_map}
 use Rattle.yew_laws.specs.Bag.{SameBag}
-use Rattle.yew_best.specs.Seats.{BestId, SeatView}
+use Rattle.yew_best.specs.Seats.{BestId, SeatView, joined_seat}
 use Rattle.yew_stack.specs.Splits.{paths_of}
 use Rattle.yew_crew.specs.Groups.{Group, IsBalanced}
 use Rattle.yew_crew.specs.OpenSeats.{OpenId, OpenSeatView}
@@ -26,9 +26,7 @@ module _ {N S R : Type 0} where
   -- the incumbent seat of the caller, joined with those of stations, in order
   abbrev pub best_with : SeatView → List (Station N S R) → SeatView
   best_with seat [] = seat
-  best_with seat (station ∷ stations) =
-      let other = station.best in
-      best_with (record seat { share = seat.share + other.share; read = seat.read ++ other.read; offered = seat.offered ++ other.offered }) stations
+  best_with seat (station ∷ stations) = best_with (joined_seat seat station.best) stations
 
   -- likewise the seat of the open tasks
   abbrev pub tasks_with : OpenSeatView → List (Station N S R) → OpenSeatView

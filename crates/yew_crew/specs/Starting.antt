@@ -19,7 +19,7 @@ use Rattle.yew_crew.specs.declared.station.Station.{Station}
 
 -- a seat at the incumbent word that has done nothing
 abbrev pub new_best : BestId → ℕ → SeatView
-new_best best share = record { best = best; share = share; read = []; offered = [] }
+new_best best share = record { best = best; share = share; read = []; offered = []; heard = [] }
 
 -- a seat at the open tasks that has made this many, and knows that some task was made
 abbrev pub new_open : OpenId → ℕ → ℕ → OpenSeatView
