@@ -1,5 +1,5 @@
 -- A crew that came to its end without a fault: what its reports tell, what is left, and what the caller walked of it make up a whole search.
-use Rattle.std.proofs.Common.{◌≡◌, ℕ, suc, ◌+◌, ◌%◌, ◌^◌, ◌<◌, ◌≤◌, ◌⊎◌, true, List, [], ◌∷◌, ◌++◌, ◌∙◌, Option, Some, None, All, map, length, refl, sym, ap, ap₂, subst, arith, inl, inr, ⊎_elim, length-append}
+use Rattle.std.proofs.Common.{◌≡◌, ℕ, suc, ◌+◌, ◌^◌, ◌<◌, ◌≤◌, ◌⊎◌, List, [], ◌∷◌, ◌++◌, ◌∙◌, Option, Some, None, All, map, length, refl, sym, ap, ap₂, subst, arith, inl, inr, ⊎_elim, length-append}
 use Rattle.std.specs.List.{AllByRecursion, Contains, sum_by}
 use Rattle.std.specs.Option.{option_map}
 use Rattle.std.proofs.lemmas.List.Elements.{recursion_from_All, All-from_recursion}
@@ -28,7 +28,7 @@ use Rattle.yew_stack.specs.Splits.{paths_of}
 use Rattle.yew_walk.specs.LogViews.{LogView}
 use Rattle.yew_walk.specs.declared.hand.Hand.{Hand}
 use Rattle.yew_crew.specs.Crews.{AreReports, IsCrewWork, IsFresh, stations_of, best_with, tasks_with}
-use Rattle.yew_crew.specs.Groups.{Group, taken, sent, together, all_together}
+use Rattle.yew_crew.specs.Groups.{Group, taken, sent, together}
 use Rattle.yew_crew.specs.Joining.{fault_in, passes_of, seats_of}
 use Rattle.yew_crew.specs.OpenSeats.{OpenSeatView, IsExact}
 use Rattle.yew_crew.specs.Reports.{IsDone, IsEndDone}

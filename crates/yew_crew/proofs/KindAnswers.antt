@@ -1,5 +1,5 @@
 -- What the tree that a kind searches says of the tree itself, for the answer of a crew.
-use Rattle.std.proofs.Common.{◌≡◌, ℕ, suc, zero, ◌≤◌, ◌<◌, ◌↔◌, List, Option, Some, None, refl, ap, ◌∙◌, arith}
+use Rattle.std.proofs.Common.{◌≡◌, ℕ, suc, zero, ◌≤◌, ◌↔◌, List, Option, Some, None, refl, ap, ◌∙◌, arith}
 use Rattle.std.specs.Prelude.{IsSomeAnd}
 use Rattle.yew_kinds.specs.Wrappers.{counted_tree, clipped_tree}
 use Rattle.yew_laws.specs.Greatest.{greatest, Reach}

@@ -1,5 +1,5 @@
 -- Once the seats are joined, the first worker's seat knows all that this worker noted.
-use Rattle.std.proofs.Common.{◌≡◌, ◌==◌, ℕ, List, [], ◌∷◌, ◌++◌, ◌∙◌, refl, sym, ap, ap₂, subst}
+use Rattle.std.proofs.Common.{◌==◌, ℕ, List, [], ◌∷◌, ◌++◌, sym, ap, ap₂, subst}
 use Rattle.std.specs.List.{AllByRecursion, Contains}
 use Rattle.std.proofs.lemmas.List.Elements.{Contains-append_left, Contains-append_right}
 use Rattle.yew_best.specs.Seats.{SeatView}
@@ -8,7 +8,7 @@ use Rattle.yew_laws.proofs.Bags.{same-part, same-sym, same-trans, same-is}
 use Rattle.yew_laws.proofs.Members.{Contains-head, Contains-tail}
 use Rattle.yew_laws.proofs.PathTests.{nat_same, nat-is}
 use Rattle.yew_laws.proofs.Weights.{part-all}
-use Rattle.yew_log.specs.Notes.{Note, judgements, visits, cuts, values, held_values}
+use Rattle.yew_log.specs.Notes.{judgements, visits, cuts, values, held_values}
 use Rattle.yew_log.specs.Segment.{entries}
 use Rattle.yew_crew.specs.Crews.{best_with}
 use Rattle.yew_crew.specs.Reports.{IsDone}

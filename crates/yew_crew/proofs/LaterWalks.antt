@@ -1,11 +1,9 @@
 -- What a seat has read and offered before is known to all that is read with it later.
-use Rattle.std.proofs.Common.{◌≡◌, ℕ, ◌≤◌, List, [], ◌∷◌, ◌++◌, ◌∙◌, map, refl, sym, ap, subst}
-use Rattle.std.specs.Prelude.{All}
+use Rattle.std.proofs.Common.{◌≡◌, ℕ, ◌≤◌, List, [], ◌∷◌, ◌++◌, map, sym, subst}
 use Rattle.std.specs.List.{AllByRecursion, Contains}
 use Rattle.std.proofs.lemmas.List.Concat.{flat_map-append}
 use Rattle.std.proofs.lemmas.List.Elements.{All-contains, Contains-append_left}
 use Rattle.yew_best.specs.Seats.{SeatView, has_read}
-use Rattle.yew_laws.specs.Bag.{SameBag, PartOfBag}
 use Rattle.yew_laws.specs.SearchTree.{SearchTree}
 use Rattle.yew_laws.proofs.Members.{AllByRecursion-append, AllByRecursion-weaker}
 use Rattle.yew_log.specs.HeldValues.{IsLater}

@@ -1,8 +1,8 @@
 -- What the pool and the mailboxes leave, with all that the workers took, is what the workers put, the root's task with it, and what they gave.
-use Rattle.std.proofs.Common.{◌≡◌, ℕ, List, [], ◌∷◌, ◌++◌, ap, arith}
+use Rattle.std.proofs.Common.{List, [], ◌∷◌, ◌++◌, ap, arith}
 use Rattle.std.specs.List.{sum_by}
 use Rattle.std.proofs.lemmas.List.{map-append}
-use Rattle.std.proofs.lemmas.List.Sums.{sum_by-append, sum_by-cons}
+use Rattle.std.proofs.lemmas.List.Sums.{sum_by-append}
 use Rattle.yew_best.specs.Seats.{SeatView}
 use Rattle.yew_laws.specs.Bag.{SameBag}
 use Rattle.yew_laws.specs.Tasks.{Members}
@@ -12,7 +12,7 @@ use Rattle.yew_mail.specs.Closing.{got_by, given_by}
 use Rattle.yew_pool.specs.Passes.{all_put, all_took}
 use Rattle.yew_stack.specs.Splits.{paths_of}
 use Rattle.yew_walk.specs.LogViews.{LogView}
-use Rattle.yew_crew.specs.Crews.{IsCrewWork, took_of, put_of, got_of, given_of}
+use Rattle.yew_crew.specs.Crews.{IsCrewWork}
 use Rattle.yew_crew.specs.Groups.{Group}
 use Rattle.yew_crew.specs.Joining.{passes_of, seats_of}
 use Rattle.yew_crew.specs.OpenSeats.{OpenSeatView}

@@ -1,6 +1,5 @@
 -- What the caller walked of what was left belongs to the first worker's log: what the passes left and what the mail seats left are told apart, and each held value is later than all that worker noted.
-use Rattle.std.proofs.Common.{◌≡◌, ℕ, List, [], ◌∷◌, ◌++◌, ◌∙◌, map, refl, sym, ap, ap₂, append-nil, arith}
-use Rattle.std.specs.List.{AllByRecursion, Contains, flat_map}
+use Rattle.std.proofs.Common.{◌≡◌, ℕ, List, ◌++◌, ◌∙◌, sym, ap, append-nil, arith}
 use Rattle.std.proofs.lemmas.List.{map-append}
 use Rattle.yew_best.specs.Seats.{SeatView}
 use Rattle.yew_laws.specs.Bag.{SameBag}

@@ -1,5 +1,5 @@
 -- What the caller walks of what all workers left: it works as a worker that shares nothing out.
-use Rattle.std.proofs.Common.{◌≡◌, ℕ, ◌+◌, ◌<◌, ◌≤◌, ◌∙◌, Bool, true, false, nat_lt, if◌then◌else◌, List, [], ◌∷◌, ◌++◌, Some, None, Option, length, map, refl, sym, ap, subst, append-nil, arith, inl}
+use Rattle.std.proofs.Common.{◌≡◌, ℕ, ◌+◌, ◌≤◌, ◌∙◌, true, false, nat_lt, if◌then◌else◌, List, [], ◌∷◌, ◌++◌, Some, None, length, refl, sym, ap, subst, append-nil, arith, inl}
 use Rattle.std.specs.Prelude.{IsSome}
 use Rattle.std.specs.List.{AllByRecursion, sum_by}
 use Rattle.std.proofs.lemmas.Bool.Decides.{nat_tests}
@@ -20,7 +20,7 @@ use Rattle.yew_log.specs.Groups.{HasGroups, NoGroup, SkeletonGroup, by_depth, by
 use Rattle.yew_log.specs.HeldValues.{plain}
 use Rattle.yew_log.specs.Lawful.{AreWalks, tasks_of}
 use Rattle.yew_log.specs.Notes.{Note, taken, visited, cut, spawned, handed, ended, event_in, sent_paths, spawned_paths, handed_paths}
-use Rattle.yew_log.specs.Policies.{HasPolicy, plain_policy}
+use Rattle.yew_log.specs.Policies.{plain_policy}
 use Rattle.yew_log.specs.Segment.{Segment, segment, entries, IsSegment}
 use Rattle.yew_log.proofs.Places.{AtEach-weaker}
 use Rattle.yew_log.proofs.PolicyRows.{policy-groups}

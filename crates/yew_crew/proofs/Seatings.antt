@@ -1,13 +1,12 @@
 -- How the stations of a crew are made, one after another.
-use Rattle.std.proofs.Common.{◌≡◌, ℕ, zero, suc, ◌+◌, ◌-◌, ◌<◌, ◌≤◌, List, [], ◌∷◌, ◌++◌, ◌∙◌, length, map, slice_index_or, refl, sym, ap, subst, arith, length-append}
+use Rattle.std.proofs.Common.{◌≡◌, ℕ, zero, suc, ◌+◌, ◌-◌, ◌<◌, List, [], ◌∷◌, ◌++◌, ◌∙◌, length, map, slice_index_or, refl, sym, ap, subst, arith, length-append}
 use Rattle.std.proofs.lemmas.List.{length-map}
-use Rattle.std.specs.Prelude.{Some}
 use Rattle.yew_best.specs.Seats.{SeatView}
 use Rattle.yew_laws.specs.Tasks.{Members}
 use Rattle.yew_laws.specs.declared.problem.Task.{Task}
 use Rattle.yew_mail.specs.Seats.{new_seat, SeatView as MailSeatView}
 use Rattle.yew_mail.specs.Views.{counted_from}
-use Rattle.yew_pool.specs.Passes.{PoolId, PassView, new_pass}
+use Rattle.yew_pool.specs.Passes.{PoolId, PassView}
 use Rattle.yew_walk.specs.LogViews.{LogView}
 use Rattle.yew_crew.specs.OpenSeats.{OpenSeatView}
 use Rattle.yew_crew.specs.Starting.{new_best, new_open, new_put, ArePasses, IsBegun, AreBegun, IsBeginning, IsSeating}

@@ -1,5 +1,5 @@
 -- How a crew ends: what its reports come to once the pool and the mailboxes are ended, and what the search has found.
-use Rattle.std.specs.Prelude.{◌≡◌, ℕ, List, [], ◌∷◌, Option, None, map, option_and_then}
+use Rattle.std.specs.Prelude.{◌≡◌, ℕ, List, ◌∷◌, Option, None, map, option_and_then}
 use Rattle.yew_laws.specs.Fold.{Fold}
 use Rattle.yew_laws.specs.PathValue.{PathValue}
 use Rattle.yew_laws.specs.SearchTree.{at_path}

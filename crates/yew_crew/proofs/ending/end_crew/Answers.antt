@@ -1,4 +1,4 @@
-use Rattle.std.proofs.Common.{◌≡◌, ◌≤◌, sym, ap, subst, ◌∙◌, arith}
+use Rattle.std.proofs.Common.{◌≤◌, sym, subst, ◌∙◌, arith}
 use Rattle.yew_laws.specs.SearchTree.{search_tree}
 use Rattle.yew_stack.specs.Splits.{paths_of}
 use Rattle.yew_walk.specs.LogViews.{log_view}

@@ -1,10 +1,9 @@
-use Rattle.std.proofs.Common.{◌≡◌, refl, sym, ap, subst, ◌∙◌, length, All}
+use Rattle.std.proofs.Common.{◌≡◌, refl, sym, ap, subst, ◌∙◌, All}
 use Rattle.std.specs.List.{AllByRecursion, sum_by}
 use Rattle.yew_laws.specs.SearchTree.{search_tree}
-use Rattle.yew_laws.specs.Tasks.{IsAmong}
 use Rattle.yew_walk.specs.LogViews.{log_view}
 use Rattle.yew_crew.specs.Crews.{stations_of}
-use Rattle.yew_crew.specs.Joining.{passes_of, seats_of}
+use Rattle.yew_crew.specs.Joining.{seats_of}
 use Rattle.yew_crew.specs.OpenSeats.{OpenSeatView, IsExact}
 use Rattle.yew_crew.specs.Resting.{IsAllLeft}
 use Rattle.yew_crew.proofs.Settling.{all-seated, all-passes, whole-passes, all-seats, whole-seats, whole-tasks}

@@ -1,4 +1,4 @@
-use Rattle.std.proofs.Common.{rules, ap, refl, arith, length}
+use Rattle.std.proofs.Common.{rules, ap}
 use Rattle.yew_crew.specs.OpenSeats.{OpenSeatView}
 use Rattle.yew_crew.proofs.Joins.{removed-first}
 use Rattle.yew_crew.proofs.Seatings.{seating-next}

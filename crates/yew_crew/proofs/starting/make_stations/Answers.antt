@@ -1,4 +1,4 @@
-use Rattle.std.proofs.Common.{◌≡◌, ◌<◌, ◌∙◌, suc, ap, arith, rules}
+use Rattle.std.proofs.Common.{◌∙◌, suc, ap, arith, rules}
 use Rattle.yew_laws.specs.SearchTree.{search_tree}
 use Rattle.yew_laws.specs.Tasks.{members_of}
 use Rattle.yew_walk.specs.LogViews.{LogView, log_view}
