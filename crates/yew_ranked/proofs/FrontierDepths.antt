@@ -1,6 +1,6 @@
 -- The walk above the depth of tasks visits and cuts nothing at that depth.
-use Rattle.std.proofs.Common.{◌≡◌, ℕ, zero, suc, ◌+◌, ◌<◌, Bool, true, false, List, [], ◌∷◌, ◌++◌, map, length, max, nat_le, if◌then◌else◌, refl, ap, sym, subst, ◌∙◌, arith}
-use Rattle.std.specs.List.{AllByRecursion, flat_map}
+use Rattle.std.proofs.Common.{◌≡◌, ℕ, zero, suc, ◌+◌, ◌<◌, Bool, true, false, List, [], ◌∷◌, ◌++◌, map, length, max, nat_le, if◌then◌else◌, refl, sym, subst, arith}
+use Rattle.std.specs.List.{AllByRecursion}
 use Rattle.std.proofs.lemmas.List.{length-append}
 use Rattle.std.proofs.lemmas.List.Concat.{flat_map-append}
 use Rattle.yew_laws.specs.SearchTree.{SearchTree, numbered}
@@ -57,9 +57,9 @@ module _ {N : Type 0} (t : SearchTree N) where
       let inner = in_turn visited_worth made path 0 (t.children n) (max held (t.worth n)) in (
         omega (arith, at),
         subst (AllByRecursion (IsAbove depth)) (sym (flat_map-append judgement_in inner (ended path ∷ [])))
-        (AllByRecursion-append (IsAbove depth) (judgements inner) []
-        (in_turn-above depth made path (λ k c h. either (nat_le (t.bound c) h) (path ++ k ∷ []) (t.bound c) h (frontier_notes t levels (path ++ k ∷ []) c h) (let l = longer path k in omega (arith, l, at))
-        (notes-above depth levels (path ++ k ∷ []) c h (let l = longer path k in omega (arith, l, at)))) 0 (t.children n) (max held (t.worth n))) tt),
+            (AllByRecursion-append (IsAbove depth) (judgements inner) []
+            (in_turn-above depth made path (λ k c h. either (nat_le (t.bound c) h) (path ++ k ∷ []) (t.bound c) h (frontier_notes t levels (path ++ k ∷ []) c h) (let l = longer path k in omega (arith, l, at))
+            (notes-above depth levels (path ++ k ∷ []) c h (let l = longer path k in omega (arith, l, at)))) 0 (t.children n) (max held (t.worth n))) tt),
       )
     where
       either : (b : Bool) (p : List ℕ) (bound h : ℕ) (notes : List Note) → length p < depth → AllByRecursion (IsAbove depth) (judgements notes)

@@ -1,19 +1,15 @@
 -- Where all seats together have heard nothing, what one of them heard is 0 or was offered by another.
-use Rattle.std.proofs.Common.{◌≡◌, ℕ, ◌⊎◌, inl, inr, ⊎_elim, Bool, true, false, not, ◌||◌, ◌==◌, if◌then◌else◌, List, [], ◌∷◌, ◌++◌, refl, ap, sym, subst, ◌∙◌, append_assoc, append-nil, arith}
+use Rattle.std.proofs.Common.{◌≡◌, ℕ, ◌⊎◌, inl, inr, Bool, true, false, not, if◌then◌else◌, List, [], ◌∷◌, ◌++◌, refl, ap, sym, subst, ◌∙◌, append_assoc, append-nil}
 use Rattle.std.specs.List.{AllByRecursion, Contains, flat_map}
 use Rattle.std.proofs.lemmas.List.Concat.{flat_map-append}
 use Rattle.std.proofs.lemmas.List.Elements.{Contains-append_left, Contains-append_right}
 use Rattle.yew_best.specs.Seats.{SeatView, joined_seat}
 use Rattle.yew_best.specs.Views.{unoffered}
 use Rattle.yew_laws.specs.Sets.{contains}
-use Rattle.yew_laws.proofs.Members.{AllByRecursion-weaker, Contains-tail}
-use Rattle.yew_laws.proofs.PathTests.{nat-is}
+use Rattle.yew_laws.proofs.Members.{AllByRecursion-weaker}
 use Rattle.yew_log.specs.Places.{AtEach}
-use Rattle.yew_ranked.proofs.RankedWalks.{contains-either, among-offered}
-
-pub all-front : {X : Type 0} (P : X → Type 0) (xs ys : List X) → AllByRecursion P (xs ++ ys) → AllByRecursion P xs
-all-front P [] ys a = tt
-all-front P (x ∷ xs) ys a = (a.0, all-front P xs ys a.1)
+use Rattle.yew_ranked.proofs.BrokenFronts.{all-front}
+use Rattle.yew_ranked.proofs.RankedWalks.{among-offered}
 
 pub all-back : {X : Type 0} (P : X → Type 0) (xs ys : List X) → AllByRecursion P (xs ++ ys) → AllByRecursion P ys
 all-back P [] ys a = a
@@ -63,12 +59,11 @@ module _ {W : Type 0} (seat_of : W → SeatView) where
       ap (λ l. l ++ other.offered) is ∙ sym (flat_map-append (λ w. (seat_of w).offered) before (w ∷ []) ∙ ap (λ l. offers before ++ l) (append-nil other.offered)) in
       let rest = heard-rest (joined_seat seat other) (before ++ w ∷ []) ws now none in
       let own = unoffered-or (IsOf ws) other.offered seat.heard (all-front (IsOf ws) (unoffered other.offered seat.heard) (unoffered seat.offered other.heard) rest.0) in
-      let its = unoffered-or (IsOf ws) seat.offered other.heard (all-back (IsOf ws) (unoffered other.offered seat.heard) (unoffered seat.offered other.heard) rest.0) in
-      (
+      let its = unoffered-or (IsOf ws) seat.offered other.heard (all-back (IsOf ws) (unoffered other.offered seat.heard) (unoffered seat.offered other.heard) rest.0) in (
         AllByRecursion-weaker (λ x. Contains other.offered x ⊎ IsOf ws x) (IsOf (w ∷ ws)) (of-front w ws) seat.heard own,
         (
           AllByRecursion-weaker (λ x. Contains seat.offered x ⊎ IsOf ws x) (IsOf (before ++ ws))
-          (λ x c. of-before before ws x (subst (λ l. Contains l x ⊎ IsOf ws x) is c)) other.heard its,
+              (λ x c. of-before before ws x (subst (λ l. Contains l x ⊎ IsOf ws x) is c)) other.heard its,
           rest.1,
         ),
       )

@@ -1,5 +1,5 @@
 -- The visits and the cuts of a walk by ranked keys, each with the word that was read before it.
-use Rattle.std.proofs.Common.{◌≡◌, ℕ, zero, suc, Bool, true, false, not, if◌then◌else◌, ◌||◌, ◌==◌, ◌/◌, ◌^◌, ◌+◌, ◌<◌, ◌≤◌, ◌⊎◌, inl, inr, ⊎_elim, List, [], ◌∷◌, ◌++◌, map, Some, refl, ap, ap₂, sym, subst, ◌∙◌, append_assoc, append-nil, arith}
+use Rattle.std.proofs.Common.{◌≡◌, ℕ, zero, suc, Bool, true, false, not, if◌then◌else◌, ◌||◌, ◌==◌, ◌≤◌, ◌⊎◌, inl, inr, ⊎_elim, List, [], ◌∷◌, ◌++◌, map, refl, ap, ap₂, sym, subst, ◌∙◌, append_assoc, append-nil, arith}
 use Rattle.std.specs.Prelude.{IsTrue}
 use Rattle.std.specs.List.{AllByRecursion, Contains}
 use Rattle.std.proofs.lemmas.List.{map-append}
@@ -38,7 +38,7 @@ pub in_order-append : (vs ws : List RankedJudgement) → ItemsInOrder vs → Ite
 in_order-append [] ws a b apart = b
 in_order-append (v ∷ vs) ws a b apart = (
   AllByRecursion-append (λ (w : RankedJudgement). v.item ≡ w.item → IsTrue (comes_before v.path w.path)) vs ws a.0
-  (AllByRecursion-weaker (λ (w : RankedJudgement). v.item ≡ w.item → ⊥) (λ (w : RankedJudgement). v.item ≡ w.item → IsTrue (comes_before v.path w.path)) (λ w n e. absurd (n e)) ws apart.0),
+      (AllByRecursion-weaker (λ (w : RankedJudgement). v.item ≡ w.item → ⊥) (λ (w : RankedJudgement). v.item ≡ w.item → IsTrue (comes_before v.path w.path)) (λ w n e. absurd (n e)) ws apart.0),
   in_order-append vs ws a.1 b apart.1,
 )
 
@@ -229,7 +229,6 @@ module _ {N : Type 0} (t : SearchTree N) (rank : ℕ) where
   pub visits-in_order : (old new : SeatView) (notes : List Note) (g : SeatGoes t (Ranked rank) old notes new) → Rise (paths (judgements notes)) → ItemsInOrder (ranked_visits old new notes g)
   visits-in_order old new notes g rise = order-from [] [] old new notes g tt tt rise
 
-
   -- the word that is read is among the offered ones, or it is heard
   offered-or_heard : (old : SeatView) (word : ℕ) → Contains old.offered word ⊎ Contains (has_read old word).heard word
   offered-or_heard old word = by (contains old.offered word) refl
@@ -257,17 +256,16 @@ module _ {N : Type 0} (t : SearchTree N) (rank : ℕ) where
       let c = ranked_judgement p b rank g.0 in
       let mid = has_read old g.0 in
       let more = ranked_visits mid new ns g.2 in
-      let earlier = all-before before p seen among rise.0 in
-      (
+      let earlier = all-before before p seen among rise.0 in (
         ⊎_elim
-        (λ (o : Contains old.offered g.0). ⊎_elim
-        (λ (x : Contains base g.0). of_base x)
-        (λ (x : Contains (map key_of_judgement seen) g.0).
-        let u = contains-of key_of_judgement seen g.0 x in
-        of_visit (offered-more seen more c record { visit = u.0; among = u.1; word_is = sym u.2; earlier = λ e. all-at (λ (v : RankedJudgement). IsTrue (comes_before v.path p)) seen u.0 earlier u.1 }))
-        (contains-either base (map key_of_judgement seen) g.0 (subst (λ l. Contains l g.0) is o)))
-        (λ (o : Contains mid.heard g.0). of_heard ((goes-in mid new ns g.2).heard g.0 o))
-        (offered-or_heard old g.0),
+            (λ (o : Contains old.offered g.0). ⊎_elim
+            (λ (x : Contains base g.0). of_base x)
+            (λ (x : Contains (map key_of_judgement seen) g.0).
+            let u = contains-of key_of_judgement seen g.0 x in
+            of_visit (offered-more seen more c record { visit = u.0; among = u.1; word_is = sym u.2; earlier = λ e. all-at (λ (v : RankedJudgement). IsTrue (comes_before v.path p)) seen u.0 earlier u.1 }))
+            (contains-either base (map key_of_judgement seen) g.0 (subst (λ l. Contains l g.0) is o)))
+            (λ (o : Contains mid.heard g.0). of_heard ((goes-in mid new ns g.2).heard g.0 o))
+            (offered-or_heard old g.0),
         causes-from base seen (before ++ p ∷ []) mid new ns g.2 is (among-more before p seen among) rise.1,
       )
   causes-from base seen before old new (taken p ∷ ns) g is among rise = causes-from base seen before old new ns g is among rise
