@@ -1,39 +1,28 @@
 -- The visits and the cuts of all workers together: they are those of a search by ranked keys, in order.
-use Rattle.std.proofs.Common.{◌≡◌, ℕ, zero, suc, ◌+◌, ◌-◌, ◌^◌, ◌<◌, ◌≤◌, ◌⊎◌, inl, inr, ⊎_elim, Bool, true, false, Some, None, Option, All, List, [], ◌∷◌, ◌++◌, map, length, refl, ap, ap₂, sym, subst, ◌∙◌, append-nil, append_assoc, arith}
-use Rattle.std.specs.Prelude.{IsTrue, IsSome, slice_get}
+use Rattle.std.proofs.Common.{◌≡◌, ℕ, zero, suc, ◌<◌, ◌≤◌, ◌⊎◌, inl, inr, ⊎_elim, Some, List, [], ◌∷◌, ◌++◌, map, length, refl, sym, subst, ◌∙◌, append-nil, append_assoc, arith}
+use Rattle.std.specs.Prelude.{IsTrue, slice_get}
 use Rattle.std.specs.List.{AllByRecursion, Contains, flat_map}
 use Rattle.std.proofs.lemmas.List.{map-append}
 use Rattle.std.proofs.lemmas.List.Concat.{flat_map-append}
 use Rattle.std.proofs.lemmas.List.Elements.{Contains-append_left, Contains-append_right}
-use Rattle.std.proofs.lemmas.Option.{none-some, same_Some}
+use Rattle.std.proofs.lemmas.Option.{none-some}
 use Rattle.yew_best.specs.Seats.{SeatView}
-use Rattle.yew_laws.specs.Order.{comes_before, lies_below}
-use Rattle.yew_laws.specs.SearchTree.{SearchTree, worth_at, bound_at}
+use Rattle.yew_laws.specs.Order.{lies_below}
+use Rattle.yew_laws.specs.SearchTree.{SearchTree}
 use Rattle.yew_laws.specs.Tree.{IsRanked}
-use Rattle.yew_laws.proofs.Below.{AtOrBelow}
 use Rattle.yew_laws.proofs.Members.{AllByRecursion-append, AllByRecursion-weaker}
 use Rattle.yew_laws.proofs.PathTests.{below-itself}
-use Rattle.yew_laws.proofs.Weights.{all-contained}
 use Rattle.yew_log.specs.Items.{Item, items_of, IsInItem}
-use Rattle.yew_log.specs.Notes.{Judgement, visits, cuts}
 use Rattle.yew_log.specs.Places.{AtEach}
-use Rattle.yew_log.specs.Segment.{entries}
-use Rattle.yew_log.proofs.EntryPlaces.{below-longer}
-use Rattle.yew_walk.specs.WorkerLogs.{KeyedSegment, segments_of, SeatGoesOn}
-use Rattle.yew_ranked.specs.ClaimSeats.{AreBelow}
-use Rattle.yew_ranked.specs.Frontier.{frontier_log, frontier_segment}
-use Rattle.yew_ranked.specs.FrontierWalk.{AreFrontierJudgements}
-use Rattle.yew_ranked.specs.RankedSearch.{RankedJudgement, ranked_paths, key_of_judgement, plain_judgement, ItemsInOrder, IsOfferedBefore}
-use Rattle.yew_ranked.specs.Tasks.{Numbered, tasks_of_tree, IsBetween}
+use Rattle.yew_walk.specs.WorkerLogs.{KeyedSegment, SeatGoesOn}
+use Rattle.yew_ranked.specs.RankedSearch.{RankedJudgement, key_of_judgement, ItemsInOrder, IsOfferedBefore}
+use Rattle.yew_ranked.specs.Tasks.{tasks_of_tree}
 use Rattle.yew_ranked.specs.Stations.{AreRising, AreTaskWalks}
-use Rattle.yew_ranked.proofs.ClaimedPlaces.{claimed, IsPast, PlacesOnce, once-rest, once-between, walked-no_twice}
-use Rattle.yew_ranked.proofs.FrontierDepths.{IsAbove, frontier-visits_above, frontier-cuts_above}
-use Rattle.yew_ranked.proofs.HeardOthers.{joined_with, offers, IsOf, heard-others}
-use Rattle.yew_ranked.proofs.ItemPlaces.{in_items-rise, below-splits}
-use Rattle.yew_ranked.proofs.PathOrder.{before-both-below}
+use Rattle.yew_ranked.proofs.ClaimedPlaces.{IsPast, PlacesOnce, once-rest, once-between}
+use Rattle.yew_ranked.proofs.HeardOthers.{offers, IsOf}
 use Rattle.yew_ranked.proofs.RankedWalks.{all-at, IsCause, of_base, of_visit, of_heard, contains-either, contains-of, in_order-append}
-use Rattle.yew_ranked.proofs.TaskRanks.{ranks-apart, task-item, task-depth}
-use Rattle.yew_ranked.proofs.WorkerVisits.{all-unmap, all-both, IsAtPlaces, on_visits, on_cuts, on_visits-plain, on_visits-offered, on_cuts-permitted, on-places, on-order, on-causes}
+use Rattle.yew_ranked.proofs.TaskRanks.{ranks-apart, task-item}
+use Rattle.yew_ranked.proofs.WorkerVisits.{all-both, IsAtPlaces, on_visits, on_cuts, on_visits-offered, on_cuts-permitted, on-places, on-order, on-causes}
 
 -- a place of a list is below its length
 pub found-below : {X : Type 0} (xs : List X) (k : ℕ) (x : X) → slice_get xs k ≡ Some x → k < length xs

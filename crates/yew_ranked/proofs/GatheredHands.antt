@@ -4,7 +4,7 @@ use Rattle.std.specs.List.{AllByRecursion}
 use Rattle.std.proofs.lemmas.Bool.Decides.{nat_tests}
 use Rattle.std.proofs.lemmas.List.{map-append}
 use Rattle.yew_laws.specs.Incumbent.{Incumbent, improved}
-use Rattle.yew_laws.proofs.Members.{AllByRecursion-append, AllByRecursion-map, AllByRecursion-weaker}
+use Rattle.yew_laws.proofs.Members.{AllByRecursion-map, AllByRecursion-weaker}
 use Rattle.yew_walk.specs.declared.hand.Hand.{Hand}
 use Rattle.yew_walk.specs.Hands.{incumbent_of}
 use Rattle.yew_crew.specs.Gathering.{IsGathered}

@@ -1,19 +1,15 @@
 -- Where all seats together have heard nothing, what one of them heard is 0 or was offered by another.
-use Rattle.std.proofs.Common.{◌≡◌, ℕ, ◌⊎◌, inl, inr, ⊎_elim, Bool, true, false, not, ◌||◌, ◌==◌, if◌then◌else◌, List, [], ◌∷◌, ◌++◌, refl, ap, sym, subst, ◌∙◌, append_assoc, append-nil, arith}
+use Rattle.std.proofs.Common.{◌≡◌, ℕ, ◌⊎◌, inl, inr, Bool, true, false, not, if◌then◌else◌, List, [], ◌∷◌, ◌++◌, refl, ap, sym, subst, ◌∙◌, append_assoc, append-nil}
 use Rattle.std.specs.List.{AllByRecursion, Contains, flat_map}
 use Rattle.std.proofs.lemmas.List.Concat.{flat_map-append}
 use Rattle.std.proofs.lemmas.List.Elements.{Contains-append_left, Contains-append_right}
 use Rattle.yew_best.specs.Seats.{SeatView, joined_seat}
 use Rattle.yew_best.specs.Views.{unoffered}
 use Rattle.yew_laws.specs.Sets.{contains}
-use Rattle.yew_laws.proofs.Members.{AllByRecursion-weaker, Contains-tail}
-use Rattle.yew_laws.proofs.PathTests.{nat-is}
+use Rattle.yew_laws.proofs.Members.{AllByRecursion-weaker}
 use Rattle.yew_log.specs.Places.{AtEach}
-use Rattle.yew_ranked.proofs.RankedWalks.{contains-either, among-offered}
-
-pub all-front : {X : Type 0} (P : X → Type 0) (xs ys : List X) → AllByRecursion P (xs ++ ys) → AllByRecursion P xs
-all-front P [] ys a = tt
-all-front P (x ∷ xs) ys a = (a.0, all-front P xs ys a.1)
+use Rattle.yew_ranked.proofs.BrokenFronts.{all-front}
+use Rattle.yew_ranked.proofs.RankedWalks.{among-offered}
 
 pub all-back : {X : Type 0} (P : X → Type 0) (xs ys : List X) → AllByRecursion P (xs ++ ys) → AllByRecursion P ys
 all-back P [] ys a = a

@@ -1,29 +1,27 @@
 -- An ordered search in which every worker found no task left has found the answer: its logs, its gathered hand and its sum are right for the tree.
-use Rattle.std.proofs.Common.{◌≡◌, ℕ, zero, suc, ◌-◌, ◌≤◌, ◌⊎◌, Option, Some, None, option_and_then, All, List, [], ◌∷◌, ◌++◌, map, length, refl, ap, ap₂, sym, subst, ◌∙◌, arith}
-use Rattle.std.specs.Prelude.{IfSome, Contains}
+use Rattle.std.proofs.Common.{◌≡◌, ℕ, zero, suc, ◌-◌, ◌≤◌, ◌⊎◌, Some, option_and_then, All, List, [], ◌∷◌, ◌++◌, map, length, refl, ap, ap₂, sym, subst, ◌∙◌, arith}
+use Rattle.std.specs.Prelude.{Contains}
 use Rattle.std.specs.List.{AllByRecursion, flat_map}
 use Rattle.std.proofs.lemmas.List.{map-append}
 use Rattle.yew_best.specs.Seats.{SeatView}
-use Rattle.yew_laws.specs.Fold.{Fold, fold_of, of_member, IsTally}
+use Rattle.yew_laws.specs.Fold.{fold_of, of_member, IsTally}
 use Rattle.yew_laws.specs.PathValue.{PathValue}
 use Rattle.yew_laws.specs.SearchTree.{SearchTree, at_path}
 use Rattle.yew_laws.specs.Tree.{Member, paths as member_paths, IsRanked, IsBounded}
 use Rattle.yew_laws.proofs.Folds.{fold-fits, fold-append}
 use Rattle.yew_laws.proofs.Members.{AllByRecursion-append}
-use Rattle.yew_log.specs.Groups.{in_order}
 use Rattle.yew_log.specs.Notes.{Note, visits, cuts, visited_paths}
 use Rattle.yew_log.specs.Segment.{entries}
-use Rattle.yew_log.specs.Totals.{no_totals, totals_after}
+use Rattle.yew_log.specs.Totals.{totals_after}
 use Rattle.yew_log.proofs.Growth.{visited-append}
 use Rattle.yew_log.proofs.Walks.{AreSmall}
 use Rattle.yew_walk.specs.declared.hand.Hand.{Hand}
-use Rattle.yew_walk.specs.Hands.{incumbent_of, numbers_of, AreVisited}
+use Rattle.yew_walk.specs.Hands.{AreVisited}
 use Rattle.yew_walk.specs.LogViews.{LogView, log_after}
-use Rattle.yew_walk.specs.PlainSearch.{NeverCuts}
 use Rattle.yew_walk.specs.WorkerLogs.{segments_of}
 use Rattle.yew_walk.proofs.PlainRuns.{log_after-told, log_after-totals, log_after-number, fresh-told, small-none}
 use Rattle.yew_walk.proofs.Sending.{log_after-append}
-use Rattle.yew_crew.specs.CrewSearch.{HasCrewLogs, IsLogOf, AreLogsOf}
+use Rattle.yew_crew.specs.CrewSearch.{IsLogOf, AreLogsOf}
 use Rattle.yew_crew.specs.Gathering.{IsGathered}
 use Rattle.yew_crew.proofs.WholeAnswers.{sum-whole}
 use Rattle.yew_ranked.specs.Frontier.{frontier_log}
@@ -78,7 +76,8 @@ module _ {N S R : Type 0} (t : SearchTree N) (join : S → S → S) (none : S) (
   module _ {sound : N → Type 0} (ranked : IsRanked sound t.children t.rank) (bounded : IsBounded sound t.children t.worth t.bound) (root : sound t.root)
       {fits : S → Type 0} (tally : IsTally fits join none) (of_fits : (n : N) (depth : ℕ) → fits (of n depth))
       (workers : ℕ) (first : Station) (others : List Station) (after : Station) (afters : List Station)
-      (first_is : IsFirstStation t join none of seen (suc levels) tasks first) (others_are : AreFresh none seen 2 others) (done : IsFinished t join none of seen levels first after) (rest : AreFinished t join none of seen levels others afters)
+      (first_is : IsFirstStation t join none of seen (suc levels) tasks first) (others_are : AreFresh none seen 2 others)
+      (done : IsFinished t join none of seen levels first after) (rest : AreFinished t join none of seen levels others afters)
       (none_heard : AllByRecursion (λ x. x ≡ 0) (best_with after.best afters).heard) (count : ℕ) (claims_are : AreBelow count (claimed_by (after ∷ afters)))
       (reads_offered : All (λ x. (x ≡ 0) ⊎ Contains (best_with after.best afters).offered x) (best_with after.best afters).read)
       (workers_are : suc (length others) ≡ workers) (alone : workers ≡ 1 → first.best.share ≡ first.best.best.seats) where

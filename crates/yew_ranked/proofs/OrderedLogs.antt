@@ -1,27 +1,22 @@
 -- The log of each worker of an ordered search is lawful, and all logs are those of a whole search.
-use Rattle.std.proofs.Common.{◌≡◌, ◌≢◌, ℕ, zero, suc, ◌+◌, ◌/◌, ◌^◌, ◌<◌, ◌≤◌, ◌⊎◌, inl, inr, ⊎_elim, Option, Some, None, All, List, [], ◌∷◌, ◌++◌, map, length, refl, ap, ap₂, sym, subst, ◌∙◌, append-nil, append_assoc, arith}
-use Rattle.std.specs.Prelude.{IsTrue, IfSome, slice_get}
-use Rattle.std.specs.List.{AllByRecursion, Contains, flat_map}
-use Rattle.std.proofs.lemmas.List.{map-append, length-append}
-use Rattle.std.proofs.lemmas.List.Concat.{flat_map-append}
+use Rattle.std.proofs.Common.{◌≡◌, ℕ, suc, ◌<◌, inl, Some, List, [], ◌∷◌, ◌++◌, map, length, refl, ap, sym, subst, ◌∙◌, append-nil, arith}
+use Rattle.std.specs.Prelude.{IsTrue, slice_get}
+use Rattle.std.specs.List.{AllByRecursion, Contains}
 use Rattle.yew_best.specs.Seats.{SeatView}
 use Rattle.yew_laws.specs.Order.{comes_before}
 use Rattle.yew_laws.specs.SearchTree.{SearchTree}
 use Rattle.yew_laws.specs.Tree.{IsRanked}
-use Rattle.yew_laws.proofs.Below.{AtOrBelow}
-use Rattle.yew_laws.proofs.Members.{AllByRecursion-append, AllByRecursion-weaker}
+use Rattle.yew_laws.proofs.Members.{AllByRecursion-weaker}
 use Rattle.yew_log.specs.Groups.{in_order, HasGroups, SkeletonGroup}
-use Rattle.yew_log.specs.HeldValues.{ranked, HeldRises, HeldIsMaximum, IsJudged}
+use Rattle.yew_log.specs.HeldValues.{ranked, HeldRises, IsJudged}
 use Rattle.yew_log.specs.Items.{items_of, IsInItem}
 use Rattle.yew_log.specs.Lawful.{LawfulLog, tasks_of}
-use Rattle.yew_log.specs.Notes.{Note, visits}
-use Rattle.yew_log.specs.Places.{AtEach}
-use Rattle.yew_log.specs.Segment.{Segment, entries, entries_in, IsSegment, Rise}
-use Rattle.yew_log.specs.WholeSearch.{joined}
+use Rattle.yew_log.specs.Notes.{visits}
+use Rattle.yew_log.specs.Segment.{Segment, entries, entries_in, Rise}
 use Rattle.yew_log.proofs.Blocks.{Rise-append}
 use Rattle.yew_log.proofs.SentKinds.{in_order-none}
 use Rattle.yew_walk.specs.WorkerLogs.{KeyedSegment, segments_of, SeatGoesOn}
-use Rattle.yew_walk.proofs.WorkerLogs.{walks-rise, walks-judged, walks-exact}
+use Rattle.yew_walk.proofs.WorkerLogs.{walks-rise, walks-judged}
 use Rattle.yew_ranked.specs.Frontier.{frontier_log, frontier_segment}
 use Rattle.yew_ranked.specs.RankedSearch.{RankedJudgement, key_of_judgement, plain_judgement}
 use Rattle.yew_ranked.specs.Stations.{AreRising, IsTaskWalk, AreTaskWalks}
@@ -31,9 +26,9 @@ use Rattle.yew_ranked.proofs.FrontierItems.{frontier_log-items}
 use Rattle.yew_ranked.proofs.FrontierLawful.{frontier-segment, frontier-groups, frontier-rises, frontier-maximum, frontier-judged}
 use Rattle.yew_ranked.proofs.HeldBehindFrontier.{AreOffered, behind-rises, behind-judged}
 use Rattle.yew_ranked.proofs.ItemPlaces.{in_items-rise}
-use Rattle.yew_ranked.proofs.ItemWalks.{ArePartsAt, parts-all, keys-rise, in-item}
+use Rattle.yew_ranked.proofs.ItemWalks.{parts-all, keys-rise, in-item}
 use Rattle.yew_ranked.proofs.TaskRanks.{task-item, task-depth, ranks-rise}
-use Rattle.yew_ranked.proofs.WorkersLogs.{offered-all, task-parts}
+use Rattle.yew_ranked.proofs.WorkersLogs.{offered-all, task-parts, task-segments}
 
 -- a path before paths that rise
 rise-cons : (p : List ℕ) (ps : List (List ℕ)) → AllByRecursion (λ q. IsTrue (comes_before p q)) ps → Rise ps → Rise (p ∷ ps)
@@ -42,13 +37,6 @@ rise-cons p ps before rise = Rise-append (p ∷ []) ps (tt, tt) rise (AllByRecur
 module _ {N : Type 0} (t : SearchTree N) (levels : ℕ) where
   abbrev tasks : List Numbered
   tasks = tasks_of_tree t (suc levels)
-
-  -- the segments of whole walks
-  parts-segments : (places : List ℕ) (walks : List KeyedSegment) → AreTaskWalks t tasks places walks → AllByRecursion (IsSegment t) (segments_of walks)
-  parts-segments [] [] are = tt
-  parts-segments [] (w ∷ ws) are = absurd are
-  parts-segments (p ∷ ps) [] are = absurd are
-  parts-segments (p ∷ ps) (w ∷ ws) are = (are.0.2.is_segment, parts-segments ps ws are.1)
 
   deep : (p : ℕ) (task : Numbered) (w : KeyedSegment) → slice_get tasks p ≡ Some task → IsTaskWalk t task w → length w.segment.task ≡ suc levels
   deep p task w there is = ap (λ (l : List ℕ). length l) is.task_is ∙ task-depth t (suc levels) p task there
@@ -110,7 +98,7 @@ module _ {N : Type 0} (t : SearchTree N) (levels : ℕ) where
         record {
           segments = segments_of walks;
           cut_up = refl;
-          each = parts-segments places walks are;
+          each = task-segments t tasks places walks are;
           groups = record {
             own = segments_of walks;
             rest = [];
@@ -140,7 +128,7 @@ module _ {N : Type 0} (t : SearchTree N) (levels : ℕ) where
         record {
           segments = segments;
           cut_up = refl;
-          each = (frontier-segment t is_ranked root levels, parts-segments places walks are);
+          each = (frontier-segment t is_ranked root levels, task-segments t tasks places walks are);
           groups = record {
             own = segments;
             rest = [];

@@ -1,7 +1,6 @@
 -- From the reports of all workers of an ordered search to what they have done, as parts of one search.
-use Rattle.std.proofs.Common.{◌≡◌, ℕ, zero, suc, ◌+◌, ◌-◌, ◌^◌, ◌<◌, ◌≤◌, ◌⊎◌, Some, None, List, [], ◌∷◌, ◌++◌, map, length, true, false, refl, ap, ap₂, sym, subst, ◌∙◌, append-nil, append_assoc, arith}
-use Rattle.std.specs.List.{AllByRecursion, Contains, flat_map}
-use Rattle.std.proofs.lemmas.List.{map-append}
+use Rattle.std.proofs.Common.{◌≡◌, ℕ, suc, ◌-◌, List, [], ◌∷◌, ◌++◌, map, false, refl, ap, ap₂, sym, subst, ◌∙◌, append_assoc, arith}
+use Rattle.std.specs.List.{AllByRecursion, flat_map}
 use Rattle.yew_best.specs.Seats.{SeatView, joined_seat}
 use Rattle.yew_laws.specs.Incumbent.{Incumbent}
 use Rattle.yew_laws.specs.SearchTree.{SearchTree}
@@ -17,14 +16,14 @@ use Rattle.yew_crew.specs.declared.station.End.TheVariants.{Done, Stopped, Fault
 use Rattle.yew_crew.proofs.BestFinds.{nothing, not_holding}
 use Rattle.yew_ranked.specs.ClaimSeats.{AreBelow}
 use Rattle.yew_ranked.specs.Frontier.{frontier_log}
-use Rattle.yew_ranked.specs.Joining.{hands_of, logs_of}
+use Rattle.yew_ranked.specs.Joining.{hands_of}
 use Rattle.yew_ranked.specs.RankedSearch.{RankedJudgement, key_of_judgement, plain_judgement, ranked_answer, gathered_answer, IsFirstAnswer}
 use Rattle.yew_ranked.specs.Stations.{IsDone, IsRankedEnd, best_along}
 use Rattle.yew_ranked.specs.Tasks.{Numbered, tasks_of_tree}
-use Rattle.yew_ranked.specs.Whole.{AreFresh, IsFirstStation, IsRankedCrew, AreRankedReports, HasRankedWorked, ranked_stations, best_with, claimed_by, IsRankedSettled, AllDone}
+use Rattle.yew_ranked.specs.Whole.{AreFresh, IsFirstStation, AreRankedReports, ranked_stations, best_with, claimed_by, AllDone}
 use Rattle.yew_ranked.specs.declared.station.RankedStation.{RankedStation}
 use Rattle.yew_ranked.specs.declared.station.RankedReport.{RankedReport}
-use Rattle.yew_ranked.proofs.AllVisits.{Worked, places_by, last_by, seat_by, visits_by}
+use Rattle.yew_ranked.proofs.AllVisits.{places_by, last_by, seat_by, visits_by}
 use Rattle.yew_ranked.proofs.ClaimedPlaces.{claimed}
 use Rattle.yew_ranked.proofs.GatheredAnswers.{answers-gathered, answer-append}
 use Rattle.yew_ranked.proofs.GatheredHands.{HasKey, gathered-hands, answer-keyed}

@@ -1,6 +1,6 @@
 -- The sums of all workers of an ordered search, gathered, are that of the tree where nothing is cut.
-use Rattle.std.proofs.Common.{◌≡◌, ℕ, suc, ◌-◌, Some, List, [], ◌∷◌, ◌++◌, map, length, refl, ap, ap₂, sym, subst, ◌∙◌, arith}
-use Rattle.std.specs.List.{AllByRecursion, Contains, flat_map}
+use Rattle.std.proofs.Common.{◌≡◌, ℕ, suc, Some, List, [], ◌∷◌, ◌++◌, length, refl, ap, ap₂, sym, ◌∙◌}
+use Rattle.std.specs.List.{AllByRecursion, flat_map}
 use Rattle.std.proofs.lemmas.List.{map-append}
 use Rattle.std.proofs.lemmas.List.Concat.{flat_map-append}
 use Rattle.yew_laws.specs.Fold.{fold_of, of_member, IsTally}
@@ -8,18 +8,16 @@ use Rattle.yew_laws.specs.SearchTree.{SearchTree, at_path}
 use Rattle.yew_laws.specs.Tree.{Member, paths as member_paths}
 use Rattle.yew_laws.proofs.Folds.{fold-fits, fold-append}
 use Rattle.yew_laws.proofs.Members.{AllByRecursion-append}
-use Rattle.yew_log.specs.Notes.{Note, Judgement, visits, paths, visit_in, visited_paths}
+use Rattle.yew_log.specs.Notes.{visited_paths}
 use Rattle.yew_log.specs.Segment.{entries, entries_in}
 use Rattle.yew_log.proofs.Growth.{visited-append}
 use Rattle.yew_walk.specs.declared.hand.Hand.{Hand}
 use Rattle.yew_walk.specs.LogViews.{LogView}
 use Rattle.yew_walk.specs.WorkerLogs.{KeyedSegment, segments_of}
-use Rattle.yew_ranked.specs.Frontier.{frontier_log}
 use Rattle.yew_ranked.specs.Joining.{hands_of}
-use Rattle.yew_ranked.specs.Stations.{IsDone}
 use Rattle.yew_ranked.specs.Whole.{AreFresh}
 use Rattle.yew_ranked.specs.declared.station.RankedStation.{RankedStation}
-use Rattle.yew_ranked.proofs.OrderedParts.{IsFinished, AreFinished, worked, works}
+use Rattle.yew_ranked.proofs.OrderedParts.{IsFinished, AreFinished, works}
 use Rattle.yew_ranked.proofs.WholeVisits.{walks_by}
 
 module _ {N S R : Type 0} (t : SearchTree N) (join : S → S → S) (none : S) (of : N → ℕ → S) (seen : R → LogView) (levels : ℕ)

@@ -1,5 +1,5 @@
 -- The logs of all workers of an ordered search, one after another, cover the tree: the tasks that the first one spawned are those that were walked.
-use Rattle.std.proofs.Common.{◌≡◌, ◌≢◌, ℕ, zero, suc, ◌<◌, ◌≤◌, List, [], ◌∷◌, ◌++◌, map, refl, ap, ap₂, sym, subst, ◌∙◌, append-nil, append_assoc, arith}
+use Rattle.std.proofs.Common.{◌≡◌, ℕ, zero, suc, List, [], ◌∷◌, ◌++◌, map, refl, ap, ap₂, sym, subst, ◌∙◌, append-nil}
 use Rattle.std.specs.List.{AllByRecursion, Contains, flat_map}
 use Rattle.std.proofs.lemmas.List.{map-append}
 use Rattle.std.proofs.lemmas.List.Concat.{flat_map-append}
@@ -7,20 +7,20 @@ use Rattle.yew_laws.specs.Bag.{SameBag}
 use Rattle.yew_laws.specs.Cover.{Cover}
 use Rattle.yew_laws.specs.SearchTree.{SearchTree}
 use Rattle.yew_laws.specs.Tree.{IsRanked}
-use Rattle.yew_laws.proofs.Bags.{same-sym, same-trans, same-is, same-cons, same-map}
+use Rattle.yew_laws.proofs.Bags.{same-trans, same-is, same-cons, same-map}
 use Rattle.yew_laws.proofs.Covering.{cover-from_tasks}
 use Rattle.yew_laws.proofs.Members.{Contains-head}
-use Rattle.yew_log.specs.Groups.{HasGroups, NoGroup, group_of}
+use Rattle.yew_log.specs.Groups.{group_of}
 use Rattle.yew_log.specs.Lawful.{tasks_of}
 use Rattle.yew_log.specs.Notes.{Note, taken, visited, cut, spawned, handed, ended, Judgement, visits, cuts, paths, visit_in, cut_in, sent_in, event_in, sent_paths, taken_paths, visited_paths, cut_paths}
 use Rattle.yew_log.specs.Places.{AtEach}
-use Rattle.yew_log.specs.Segment.{Segment, Begins, entries, entries_in, IsSegment}
+use Rattle.yew_log.specs.Segment.{Begins, entries, entries_in, IsSegment}
 use Rattle.yew_log.proofs.Growth.{segments-covered_paths}
 use Rattle.yew_walk.specs.WorkerLogs.{KeyedSegment, segments_of}
-use Rattle.yew_ranked.specs.Frontier.{frontier_log, frontier_notes, frontier_segment}
+use Rattle.yew_ranked.specs.Frontier.{frontier_log, frontier_segment}
 use Rattle.yew_ranked.specs.RankedSearch.{RankedJudgement, ranked_paths, plain_judgement, IsRankedSearch}
 use Rattle.yew_ranked.specs.Tasks.{Numbered, tasks_of_tree}
-use Rattle.yew_ranked.proofs.AllVisits.{Worked, visits_by, cuts_by}
+use Rattle.yew_ranked.proofs.AllVisits.{visits_by, cuts_by}
 use Rattle.yew_ranked.proofs.FrontierItems.{frontier_log-tasks}
 use Rattle.yew_ranked.proofs.FrontierLawful.{frontier-segment, frontier-sent}
 use Rattle.yew_ranked.proofs.WholeVisits.{task_of, part, ArePartsOf, walks_by, tasks-walked, IsSomeWalk, all-walks, visits-plain_by, cuts-plain_by, all_visits, all_cuts, all-search}

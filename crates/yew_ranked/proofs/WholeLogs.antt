@@ -1,15 +1,13 @@
 -- The logs of all workers of an ordered search are those of a whole search, and one of them has visited the first best node.
-use Rattle.std.proofs.Common.{◌≡◌, ℕ, zero, suc, ◌+◌, ◌/◌, ◌^◌, ◌<◌, ◌≤◌, ◌⊎◌, inl, inr, ⊎_elim, Option, Some, None, option_and_then, All, max, List, [], ◌∷◌, ◌++◌, map, length, refl, ap, ap₂, sym, subst, ◌∙◌, append-nil, append_assoc, arith}
+use Rattle.std.proofs.Common.{◌≡◌, ℕ, suc, ◌/◌, ◌^◌, ◌<◌, ◌≤◌, ◌⊎◌, inl, inr, ⊎_elim, Option, Some, None, option_and_then, All, max, List, [], ◌∷◌, ◌++◌, map, length, refl, ap, ap₂, sym, subst, ◌∙◌, append_assoc, arith}
 use Rattle.std.specs.Prelude.{IfSome}
 use Rattle.std.specs.List.{AllByRecursion, Contains, flat_map}
 use Rattle.std.proofs.lemmas.List.{map-append, length-append}
 use Rattle.std.proofs.lemmas.List.Concat.{flat_map-append}
 use Rattle.std.proofs.lemmas.List.Elements.{All-contains, All-from_recursion, Contains-append_left, Contains-append_right}
-use Rattle.std.proofs.lemmas.Option.{none-some}
-use Rattle.yew_best.specs.Seats.{SeatView}
 use Rattle.yew_laws.specs.Bag.{SameBag}
 use Rattle.yew_laws.specs.Cover.{Cover}
-use Rattle.yew_laws.specs.Greatest.{greatest, first_best}
+use Rattle.yew_laws.specs.Greatest.{first_best}
 use Rattle.yew_laws.specs.PathValue.{PathValue}
 use Rattle.yew_laws.specs.SearchTree.{SearchTree, at_path, worth_at, bound_at}
 use Rattle.yew_laws.specs.Tree.{IsRanked, IsBounded}
@@ -17,7 +15,6 @@ use Rattle.yew_laws.proofs.Bags.{same-is, same-trans}
 use Rattle.yew_laws.proofs.Members.{AllByRecursion-append, AllByRecursion-map, AllByRecursion-weaker, Contains-head, Contains-tail, Contains-map}
 use Rattle.yew_log.specs.Attained.{Attained, limit}
 use Rattle.yew_log.specs.Groups.{in_order}
-use Rattle.yew_log.specs.HeldValues.{HeldIsMaximum}
 use Rattle.yew_log.specs.Items.{ranked_key}
 use Rattle.yew_log.specs.Lawful.{LawfulLog, tasks_of}
 use Rattle.yew_log.specs.Notes.{Note, taken, visited, cut, spawned, handed, ended, Judgement, judgement_in, visits, cuts, values, maximum, visit_in, taken_in, taken_paths, sent_paths, visited_paths, cut_paths}
@@ -31,10 +28,10 @@ use Rattle.yew_walk.proofs.KeyOrder.{limit-none}
 use Rattle.yew_walk.proofs.PlainLogs.{maximum-one}
 use Rattle.yew_ranked.specs.Frontier.{frontier_log, frontier_segment}
 use Rattle.yew_ranked.specs.RankedSearch.{RankedJudgement, key_of_judgement, plain_judgement, IsOfferedBefore, IsRankedSearch}
-use Rattle.yew_ranked.proofs.AllVisits.{all-contains, offers-keys, visits_by, cuts_by, seat_by}
+use Rattle.yew_ranked.proofs.AllVisits.{all-contains, offers-keys, visits_by, seat_by}
 use Rattle.yew_ranked.proofs.FirstBestVisits.{visit-at_most, first-best-visit}
 use Rattle.yew_ranked.proofs.FrontierLawful.{frontier-maximum}
-use Rattle.yew_ranked.proofs.HeardOthers.{joined_with, joined-lists, offers}
+use Rattle.yew_ranked.proofs.HeardOthers.{joined_with, joined-lists}
 use Rattle.yew_ranked.proofs.OrderedLogs.{first-lawful, others-lawful}
 use Rattle.yew_ranked.proofs.RankedWalks.{contains-of}
 use Rattle.yew_ranked.proofs.WholeCover.{all_walks, all_notes, whole-visits, whole-cuts, whole-segments, whole-tasks, whole-cover, whole-search}
@@ -58,7 +55,8 @@ maximum-found (n ∷ ns) = by (order (maximum ns) n) (maximum-found ns)
 abbrev IsWorthOf : List Judgement → Judgement → Type 0
 IsWorthOf vs j = (j.held ≡ 0) ⊎ Contains (values vs) j.held
 
-held-found : (all before notes : List Note) → before ++ notes ≡ all → AtEach (λ b n a. AllByRecursion (λ (j : Judgement). j.held ≡ maximum (values (visits b))) (judgement_in n)) before notes → AllByRecursion (IsWorthOf (visits all)) (visits notes)
+held-found : (all before notes : List Note) → before ++ notes ≡ all → AtEach (λ b n a. AllByRecursion (λ (j : Judgement). j.held ≡ maximum (values (visits b))) (judgement_in n)) before notes
+    → AllByRecursion (IsWorthOf (visits all)) (visits notes)
 held-found all before [] is each = tt
 held-found all before (visited p w h ∷ ns) is each = (
   ⊎_elim (λ (z : maximum (values (visits before)) ≡ 0). inl (each.0.0 ∙ z))
@@ -173,7 +171,8 @@ module _ {N : Type 0} (t : SearchTree N) (levels : ℕ) where
       word-cause : (x : ℕ) → Contains (reads (w ∷ ws)) x → (x ≡ 0) ⊎ ((u : RankedJudgement) × Contains whole u × (key_of_judgement u ≡ x))
       word-cause x c =
           let lists = joined-lists (seat_by t (suc levels)) w.now ws in
-          let cause = All-contains (λ x. (x ≡ 0) ⊎ Contains (joined_with (seat_by t (suc levels)) w.now ws).offered x) (joined_with (seat_by t (suc levels)) w.now ws).read x reads_offered (subst (λ (l : List ℕ). Contains l x) (sym lists.0) c) in
+          let all = joined_with (seat_by t (suc levels)) w.now ws in
+          let cause = All-contains (λ x. (x ≡ 0) ⊎ Contains all.offered x) all.read x reads_offered (subst (λ (l : List ℕ). Contains l x) (sym lists.0) c) in
           ⊎_elim (λ (z : x ≡ 0). inl z)
           (λ (o : Contains (joined_with (seat_by t (suc levels)) w.now ws).offered x).
           ⊎_elim
@@ -248,7 +247,8 @@ module _ {N : Type 0} (t : SearchTree N) (levels : ℕ) where
           others-each workers ((frontier_log t levels ++ notes_by w) ∷ []) ws (omega arith) (severals workers ws count),
         );
         tasks = subst (λ (ns : List Note). SameBag (taken_paths ns) ([] ∷ sent_paths ns)) (sym joined-logs)
-            (same-trans (same-is (taken-tasks (frontier_segment t levels ∷ segments_of (all_walks t levels ranked root fv fc w ws are)) (whole-segments t levels ranked root fv fc w ws are))) (whole-tasks t levels ranked root fv fc w ws are));
+            (same-trans (same-is (taken-tasks (frontier_segment t levels ∷ segments_of (all_walks t levels ranked root fv fc w ws are)) (whole-segments t levels ranked root fv fc w ws are)))
+            (whole-tasks t levels ranked root fv fc w ws are));
         cover = subst (λ (ns : List Note). Cover t (visited_paths ns) (cut_paths ns)) (sym joined-logs) (whole-cover t levels ranked root fv fc w ws are);
         attained = subst (λ (ns : List Note). Attained t 0 (visits ns) (cuts ns)) (sym joined-logs) whole-attained;
         best = subst (λ (ns : List Note). IfSome solution (IsBestVisit t ns)) (sym joined-logs) best;

@@ -1,41 +1,36 @@
 -- All visits and cuts of an ordered search, those of the walk above the depth first: they are a search by ranked keys.
-use Rattle.std.proofs.Common.{◌≡◌, ◌≢◌, ℕ, zero, suc, ◌+◌, ◌-◌, ◌^◌, ◌<◌, ◌≤◌, ◌⊎◌, inl, inr, ⊎_elim, Bool, true, false, Some, None, Option, All, List, [], ◌∷◌, ◌++◌, map, length, refl, ap, ap₂, sym, subst, ◌∙◌, append-nil, append_assoc, arith}
-use Rattle.std.specs.Prelude.{IsTrue, IsSome, slice_get}
+use Rattle.std.proofs.Common.{◌≡◌, ℕ, suc, ◌^◌, ◌<◌, ◌≤◌, ◌⊎◌, inl, inr, ⊎_elim, Bool, true, false, Some, List, [], ◌∷◌, ◌++◌, map, length, refl, ap, ap₂, sym, subst, ◌∙◌, append-nil, arith}
+use Rattle.std.specs.Prelude.{IsTrue, slice_get}
 use Rattle.std.specs.List.{AllByRecursion, Contains, flat_map, sum_by}
 use Rattle.std.proofs.lemmas.List.{map-append}
 use Rattle.std.proofs.lemmas.List.Concat.{flat_map-append}
 use Rattle.std.proofs.lemmas.List.Elements.{Contains-append_left}
 use Rattle.std.proofs.lemmas.List.Sums.{sum_by-append, sum_by-cons}
 use Rattle.std.proofs.lemmas.Option.{same_Some}
-use Rattle.yew_best.specs.Seats.{SeatView}
 use Rattle.yew_laws.specs.Bag.{SameBag}
 use Rattle.yew_laws.specs.Cover.{Cover}
 use Rattle.yew_laws.specs.Order.{comes_before, lies_below}
 use Rattle.yew_laws.specs.SearchTree.{SearchTree, worth_at, bound_at, below}
 use Rattle.yew_laws.specs.Tree.{IsRanked}
-use Rattle.yew_laws.proofs.Bags.{same-refl, same-sym, same-trans, same-is, same-append, same-map, append-swaps, sum_by-map}
-use Rattle.yew_laws.proofs.Below.{AtOrBelow}
-use Rattle.yew_laws.proofs.Covering.{cover-from_tasks}
 use Rattle.yew_laws.proofs.Members.{AllByRecursion-append, AllByRecursion-weaker}
 use Rattle.yew_log.specs.Items.{Item, items_of, IsInItem}
-use Rattle.yew_log.specs.Lawful.{tasks_of}
-use Rattle.yew_log.specs.Notes.{Note, Judgement, visits, cuts, paths, visit_in, cut_in, sent_in, sent_paths, spawned_paths, visited_paths, cut_paths}
-use Rattle.yew_log.specs.Segment.{Segment, entries, entries_in, covered_paths, IsSegment}
+use Rattle.yew_log.specs.Notes.{Judgement, visits, cuts, visit_in, cut_in}
+use Rattle.yew_log.specs.Segment.{entries, entries_in}
 use Rattle.yew_log.proofs.EntryPlaces.{below-longer}
 use Rattle.yew_walk.specs.WorkerLogs.{KeyedSegment, segments_of}
 use Rattle.yew_walk.specs.declared.keying.Keying.{Keying}
 use Rattle.yew_walk.specs.declared.keying.Keying.TheVariants.{Plain, Ranked}
 use Rattle.yew_ranked.specs.ClaimSeats.{AreBelow}
-use Rattle.yew_ranked.specs.Frontier.{frontier_log, frontier_segment}
+use Rattle.yew_ranked.specs.Frontier.{frontier_log}
 use Rattle.yew_ranked.specs.FrontierWalk.{AreFrontierJudgements}
 use Rattle.yew_ranked.specs.RankedSearch.{RankedJudgement, ranked_paths, key_of_judgement, plain_judgement, ItemsInOrder, IsOfferedBefore, IsRankedSearch}
 use Rattle.yew_ranked.specs.Tasks.{Numbered, tasks_of_tree, IsBetween}
 use Rattle.yew_ranked.specs.Stations.{AreTaskWalks, IsTaskWalk}
-use Rattle.yew_ranked.proofs.AllVisits.{Worked, places_by, last_by, seat_by, visits_by, cuts_by, AreAt, Began, ApartFrom, found-below, all-contains, all-past, at-item, visits-at, cuts-at, workers-order, workers-permitted, all-causes}
+use Rattle.yew_ranked.proofs.AllVisits.{Worked, places_by, last_by, seat_by, visits_by, cuts_by, Began, ApartFrom, found-below, all-contains, all-past, at-item, visits-at, cuts-at, workers-order, workers-permitted, all-causes}
 use Rattle.yew_ranked.proofs.ClaimedPlaces.{claimed, PlacesOnce, weight_at, members-once, walked-no_twice}
 use Rattle.yew_ranked.proofs.FrontierDepths.{IsAbove, frontier-visits_above, frontier-cuts_above}
-use Rattle.yew_ranked.proofs.FrontierLawful.{frontier-segment, frontier-sent}
-use Rattle.yew_ranked.proofs.HeardOthers.{joined_with, heard-others, all-front, all-back}
+use Rattle.yew_ranked.proofs.FrontierLawful.{frontier-segment}
+use Rattle.yew_ranked.proofs.HeardOthers.{joined_with, heard-others}
 use Rattle.yew_ranked.proofs.ItemPlaces.{in_items-rise, below-splits}
 use Rattle.yew_ranked.proofs.PathOrder.{before-both-below}
 use Rattle.yew_ranked.proofs.RankedWalks.{all-at, contains-either, in_order-append}
@@ -220,7 +215,8 @@ module _ {N : Type 0} (t : SearchTree N) (levels : ℕ) where
     pub began : AllByRecursion (Began t (suc levels) ranked root fv) (w ∷ ws)
     began = (
       (λ x c. subst (λ l. Contains l x) are.first_offered c),
-      AllByRecursion-weaker (λ (v : part). v.first.offered ≡ []) (Began t (suc levels) ranked root fv) (λ v e x c. absurd (let n : Contains {X = ℕ} [] x → ⊥ = λ c. absurd (omega (arith, c.1)) in n (subst (λ l. Contains l x) e c))) ws are.others_offered,
+      AllByRecursion-weaker (λ (v : part). v.first.offered ≡ []) (Began t (suc levels) ranked root fv)
+          (λ v e x c. absurd (let n : Contains {X = ℕ} [] x → ⊥ = λ c. absurd (omega (arith, c.1)) in n (subst (λ l. Contains l x) e c))) ws are.others_offered,
     )
 
     -- the visits are in order: those above the depth first, and then worker by worker
@@ -235,14 +231,16 @@ module _ {N : Type 0} (t : SearchTree N) (levels : ℕ) where
     pub all-worths : AllByRecursion (λ (v : RankedJudgement). worth_at t v.path ≡ Some v.value) all_visits
     all-worths =
         AllByRecursion-append (λ (v : RankedJudgement). worth_at t v.path ≡ Some v.value) fv (flat_map (visits_by t (suc levels)) (w ∷ ws))
-        (all-unmap (λ (v : Judgement). worth_at t v.path ≡ Some v.value) plain_judgement fv (subst (AllByRecursion (λ (v : Judgement). worth_at t v.path ≡ Some v.value)) (sym are.visits_are) (frontier-segment t ranked root levels).valued.worths))
+        (all-unmap (λ (v : Judgement). worth_at t v.path ≡ Some v.value) plain_judgement fv
+        (subst (AllByRecursion (λ (v : Judgement). worth_at t v.path ≡ Some v.value)) (sym are.visits_are) (frontier-segment t ranked root levels).valued.worths))
         (all-unmap (λ (v : Judgement). worth_at t v.path ≡ Some v.value) plain_judgement (flat_map (visits_by t (suc levels)) (w ∷ ws))
         (subst (AllByRecursion (λ (v : Judgement). worth_at t v.path ≡ Some v.value)) (sym (visits-plain_by (w ∷ ws))) (walks-valued (flat_map walks_by (w ∷ ws)) (all-walks (w ∷ ws))).0))
 
     pub all-bounds : AllByRecursion (λ (c : RankedJudgement). bound_at t c.path ≡ Some c.value) all_cuts
     all-bounds =
         AllByRecursion-append (λ (c : RankedJudgement). bound_at t c.path ≡ Some c.value) fc (flat_map (cuts_by t (suc levels)) (w ∷ ws))
-        (all-unmap (λ (c : Judgement). bound_at t c.path ≡ Some c.value) plain_judgement fc (subst (AllByRecursion (λ (c : Judgement). bound_at t c.path ≡ Some c.value)) (sym are.cuts_are) (frontier-segment t ranked root levels).valued.bounds))
+        (all-unmap (λ (c : Judgement). bound_at t c.path ≡ Some c.value) plain_judgement fc
+        (subst (AllByRecursion (λ (c : Judgement). bound_at t c.path ≡ Some c.value)) (sym are.cuts_are) (frontier-segment t ranked root levels).valued.bounds))
         (all-unmap (λ (c : Judgement). bound_at t c.path ≡ Some c.value) plain_judgement (flat_map (cuts_by t (suc levels)) (w ∷ ws))
         (subst (AllByRecursion (λ (c : Judgement). bound_at t c.path ≡ Some c.value)) (sym (cuts-plain_by (w ∷ ws))) (walks-valued (flat_map walks_by (w ∷ ws)) (all-walks (w ∷ ws))).1))
 
@@ -260,7 +258,8 @@ module _ {N : Type 0} (t : SearchTree N) (levels : ℕ) where
       permitted = AllByRecursion-append (λ (c : RankedJudgement). key_of_judgement c ≤ c.word) fc (flat_map (cuts_by t (suc levels)) (w ∷ ws)) are.judged.permitted (workers-permitted t (suc levels) ranked root (w ∷ ws));
       offered = AllByRecursion-append (λ (c : RankedJudgement). (c.word ≡ 0) ⊎ IsOfferedBefore all_visits c) fc (flat_map (cuts_by t (suc levels)) (w ∷ ws))
           (AllByRecursion-weaker (λ (c : RankedJudgement). (c.word ≡ 0) ⊎ IsOfferedBefore fv c) (λ (c : RankedJudgement). (c.word ≡ 0) ⊎ IsOfferedBefore all_visits c)
-          (λ c o. ⊎_elim (λ (z : c.word ≡ 0). inl z) (λ (b : IsOfferedBefore fv c). inr record { visit = b.visit; among = Contains-append_left fv (flat_map (visits_by t (suc levels)) (w ∷ ws)) b.visit b.among; word_is = b.word_is; earlier = b.earlier }) o)
+          (λ c o. ⊎_elim (λ (z : c.word ≡ 0). inl z)
+          (λ (b : IsOfferedBefore fv c). inr record { visit = b.visit; among = Contains-append_left fv (flat_map (visits_by t (suc levels)) (w ∷ ws)) b.visit b.among; word_is = b.word_is; earlier = b.earlier }) o)
           fc are.judged.offered)
           (all-causes t (suc levels) ranked root fv apart [] (w ∷ ws) (w ∷ ws) refl once began (heard-others (seat_by t (suc levels)) w ws are.none_heard));
     }

@@ -1,14 +1,12 @@
 -- The visits and the cuts of one worker of an ordered search: in which task each lies, in which order, and by which words they were decided.
-use Rattle.std.proofs.Common.{◌≡◌, ◌≢◌, ℕ, ◌+◌, ◌<◌, ◌≤◌, ◌⊎◌, inl, inr, ⊎_elim, Option, Some, None, List, [], ◌∷◌, ◌++◌, map, refl, ap, ap₂, sym, subst, ◌∙◌, append_assoc, append-nil, arith}
-use Rattle.std.specs.Prelude.{IsTrue, IsSome, slice_get}
+use Rattle.std.proofs.Common.{◌≡◌, ℕ, ◌<◌, ◌≤◌, ⊎_elim, Option, Some, None, List, [], ◌∷◌, ◌++◌, map, refl, ap, ap₂, sym, subst, ◌∙◌, append_assoc, append-nil, arith}
+use Rattle.std.specs.Prelude.{IsSome, slice_get}
 use Rattle.std.specs.List.{AllByRecursion, Contains, flat_map}
 use Rattle.std.proofs.lemmas.List.{map-append}
 use Rattle.std.proofs.lemmas.List.Concat.{flat_map-append}
-use Rattle.std.proofs.lemmas.Option.{none-some}
 use Rattle.yew_best.specs.Seats.{SeatView}
 use Rattle.yew_laws.specs.Incumbent.{Incumbent}
-use Rattle.yew_laws.specs.Order.{comes_before}
-use Rattle.yew_laws.specs.SearchTree.{SearchTree, at_path, bound_at, below, numbered}
+use Rattle.yew_laws.specs.SearchTree.{SearchTree, at_path, bound_at, below}
 use Rattle.yew_laws.specs.Tree.{IsRanked}
 use Rattle.yew_laws.proofs.Bags.{same-part}
 use Rattle.yew_laws.proofs.Below.{AtOrBelow, below-unfolds}
@@ -16,20 +14,22 @@ use Rattle.yew_laws.proofs.Members.{AllByRecursion-append, AllByRecursion-weaker
 use Rattle.yew_laws.proofs.PathTests.{is_path-same, is_path-is}
 use Rattle.yew_laws.proofs.Weights.{part-all}
 use Rattle.yew_laws.specs.Order.{is_path}
-use Rattle.yew_log.specs.Notes.{Note, Judgement, visits, cuts, visit_in, cut_in, paths, visited_paths, cut_paths, sent_paths}
-use Rattle.yew_log.specs.Segment.{Segment, entries, entries_in, covered_paths, IsSegment}
+use Rattle.yew_log.specs.Notes.{Judgement, visits, cuts, visit_in, cut_in, paths, visited_paths, cut_paths, sent_paths}
+use Rattle.yew_log.specs.Segment.{Segment, entries, entries_in, IsSegment}
 use Rattle.yew_walk.specs.declared.keying.Keying.{Keying}
 use Rattle.yew_walk.specs.declared.keying.Keying.TheVariants.{Ranked}
 use Rattle.yew_walk.specs.Hands.{best_after}
 use Rattle.yew_walk.specs.Seats.{SeatGoes}
 use Rattle.yew_walk.specs.WorkerLogs.{KeyedSegment, segments_of, SeatGoesOn}
-use Rattle.yew_ranked.specs.RankedSearch.{RankedJudgement, key_of_judgement, plain_judgement, ItemsInOrder, IsOfferedBefore, ranked_answer}
+use Rattle.yew_ranked.specs.RankedSearch.{RankedJudgement, key_of_judgement, plain_judgement, ItemsInOrder, ranked_answer}
 use Rattle.yew_ranked.specs.Tasks.{Numbered, tasks_of_tree}
 use Rattle.yew_ranked.specs.Stations.{best_along, AreRising, IsTaskWalk, AreTaskWalks}
-use Rattle.yew_ranked.proofs.FirstBestVisits.{AtNode, at-node, node-sound, cut-inside}
+use Rattle.yew_ranked.proofs.BrokenFronts.{all-front}
+use Rattle.yew_ranked.proofs.FirstBestVisits.{at-node, node-sound, cut-inside}
 use Rattle.yew_ranked.proofs.GatheredAnswers.{answer-walk, answer-append}
-use Rattle.yew_ranked.proofs.HeardOthers.{all-front, all-back}
-use Rattle.yew_ranked.proofs.RankedWalks.{all-at, IsCause, of_base, of_visit, of_heard, contains-either, contains-of, offered-more, offered-behind, in_order-append, StaysIn, ranked_visits, ranked_cuts, visits-plain, cuts-plain, visits-item, goes-in, visits-offered, words-read, cuts-permitted, visits-in_order, cuts-caused}
+use Rattle.yew_ranked.proofs.HeardOthers.{all-back}
+use Rattle.yew_ranked.proofs.RankedWalks.{all-at, IsCause, of_base, of_visit, of_heard, contains-either, contains-of, offered-more, offered-behind, in_order-append}
+use Rattle.yew_ranked.proofs.RankedWalks.{ranked_visits, ranked_cuts, visits-plain, cuts-plain, visits-item, goes-in, visits-offered, words-read, cuts-permitted, visits-in_order, cuts-caused}
 use Rattle.yew_ranked.proofs.TaskRanks.{ranks-rise}
 
 -- what holds of mapped members
@@ -152,7 +152,8 @@ module _ {N : Type 0} (t : SearchTree N) (depth : ℕ) where
       let g = by_rank are.0.0 w first goes.0 are.0.2 goes.1 in
       let cs = ranked_cuts t are.0.0.rank first goes.0 (entries_in w.segment) g in
       AllByRecursion-append (λ (c : RankedJudgement). key_of_judgement c ≤ c.word) cs (on_cuts ps ws goes.0 now are.1 goes.2)
-      (AllByRecursion-weaker (λ (c : RankedJudgement). (c.item ≡ are.0.0.rank) × (key_of_judgement c ≤ c.word)) (λ (c : RankedJudgement). key_of_judgement c ≤ c.word) (λ c x. x.1) cs (cuts-permitted t are.0.0.rank first goes.0 (entries_in w.segment) g))
+      (AllByRecursion-weaker (λ (c : RankedJudgement). (c.item ≡ are.0.0.rank) × (key_of_judgement c ≤ c.word)) (λ (c : RankedJudgement). key_of_judgement c ≤ c.word)
+      (λ c x. x.1) cs (cuts-permitted t are.0.0.rank first goes.0 (entries_in w.segment) g))
       (on_cuts-permitted ps ws goes.0 now are.1 goes.2)
 
   -- the best visit along the walks is the answer of the visits
@@ -173,7 +174,8 @@ module _ {N : Type 0} (t : SearchTree N) (depth : ℕ) where
 
   module _ {sound : N → Type 0} (ranked : IsRanked sound t.children t.rank) (root : sound t.root) where
     -- a member of the paths at and below a path
-    below-head : (P : List ℕ → Type 0) (cs : List Judgement) (more : List (List ℕ)) → AllByRecursion (λ (c : Judgement). bound_at t c.path ≡ Some c.value) cs → AllByRecursion P (flat_map (below t) (paths cs ++ more)) → AllByRecursion P (paths cs)
+    below-head : (P : List ℕ → Type 0) (cs : List Judgement) (more : List (List ℕ)) → AllByRecursion (λ (c : Judgement). bound_at t c.path ≡ Some c.value) cs
+        → AllByRecursion P (flat_map (below t) (paths cs ++ more)) → AllByRecursion P (paths cs)
     below-head P [] more bounds a = tt
     below-head P (c ∷ cs) more bounds a =
         let at = at-node (at_path t c.path) t.bound c.value bounds.0 in
@@ -244,7 +246,8 @@ module _ {N : Type 0} (t : SearchTree N) (depth : ℕ) where
         let more = on_visits ps ws goes.0 now are.1 goes.2 in
         in_order-append vs more (visits-in_order t rank first goes.0 (entries_in w.segment) g are.0.2.is_segment.rises) (on-order ps ws goes.0 now are.1 goes.2 rising.1)
         (AllByRecursion-weaker (λ (v : RankedJudgement). v.item ≡ rank) (λ (v : RankedJudgement). AllByRecursion (λ (u : RankedJudgement). v.item ≡ u.item → ⊥) more)
-        (λ v e. AllByRecursion-weaker (IsAtPlaces ps) (λ (u : RankedJudgement). v.item ≡ u.item → ⊥) (λ u i same. let l = later-item p ps are.0.0 are.0.1 rising.0 u i in omega (arith, l, e, same)) more (on-places ps ws goes.0 now are.1 goes.2).0)
+        (λ v e. AllByRecursion-weaker (IsAtPlaces ps) (λ (u : RankedJudgement). v.item ≡ u.item → ⊥)
+        (λ u i same. let l = later-item p ps are.0.0 are.0.1 rising.0 u i in omega (arith, l, e, same)) more (on-places ps ws goes.0 now are.1 goes.2).0)
         vs (visits-item t rank first goes.0 (entries_in w.segment) g))
 
     -- the cause of each cut
@@ -265,7 +268,8 @@ module _ {N : Type 0} (t : SearchTree N) (depth : ℕ) where
         (AllByRecursion-weaker (IsCause first.offered vs mid.heard) (IsCause first.offered (vs ++ more) now.heard) (first-cause first.offered vs more mid.heard now.heard (goes_on-in ws ps mid now are.1 goes.2).1) cs
         (cuts-caused t rank first mid (entries_in w.segment) g are.0.2.is_segment.rises))
         (all-both (IsAtPlaces ps) (IsCause mid.offered more now.heard) (IsCause first.offered (vs ++ more) now.heard)
-        (λ c i cause. later-cause first.offered mid.offered vs more now.heard rank (visits-item t rank first mid (entries_in w.segment) g) (visits-offered t rank first mid (entries_in w.segment) g) c (later-item p ps are.0.0 are.0.1 rising.0 c i) cause)
+        (λ c i cause. later-cause first.offered mid.offered vs more now.heard rank (visits-item t rank first mid (entries_in w.segment) g)
+        (visits-offered t rank first mid (entries_in w.segment) g) c (later-item p ps are.0.0 are.0.1 rising.0 c i) cause)
         later (on-places ps ws mid now are.1 goes.2).1 (on-causes ps ws mid now are.1 goes.2 rising.1))
       where
         first-cause : (base : List ℕ) (vs more : List RankedJudgement) (heard heard' : List ℕ) → ((x : ℕ) → Contains heard x → Contains heard' x) → (c : RankedJudgement) → IsCause base vs heard c → IsCause base (vs ++ more) heard' c
