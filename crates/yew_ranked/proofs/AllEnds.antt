@@ -1,5 +1,5 @@
 -- Where no report of an ordered search ended with a fault, every worker found no task left.
-use Rattle.std.proofs.Common.{◌≡◌, ℕ, ◌+◌, ◌<◌, Bool, true, false, ◌||◌, List, [], ◌∷◌, ◌∙◌, Option, Some, None, refl, sym, ap, arith}
+use Rattle.std.proofs.Common.{◌≡◌, ℕ, ◌+◌, ◌<◌, Bool, true, false, ◌||◌, List, [], ◌∷◌, ◌∙◌, Option, Some, None, refl, sym, ap, subst, arith}
 use Rattle.std.specs.List.{AllByRecursion}
 use Rattle.yew_crew.specs.Joining.{first_fault}
 use Rattle.yew_crew.specs.OpenSeats.{OpenSeatView}
@@ -26,19 +26,20 @@ or_left false b e = absurd (let n : false ≡ true → ⊥ = λ h. cc in n e)
 
 module _ {S R : Type 0} where
   -- a fault that is there stays
-  fault-stays : (fault : SearchFault) (reports : List (RankedReport S R)) → fault_in (Some fault) reports ≡ Some fault
+  pub fault-stays : (fault : SearchFault) (reports : List (RankedReport S R)) → fault_in (Some fault) reports ≡ Some fault
   fault-stays fault [] = refl
   fault-stays fault (r ∷ rs) = fault-stays fault rs
 
   -- no report has a fault where none is found
   pub none-faulty : (reports : List (RankedReport S R)) → fault_in None reports ≡ None → AllByRecursion (λ (r : RankedReport S R). HasNoFault r.end) reports
   none-faulty [] none = tt
-  none-faulty (r ∷ rs) none = by r.end none
+  none-faulty (r ∷ rs) none = by (none-faulty rs) r.end none
     where
-      by : (end : End) → fault_in (first_fault None end) rs ≡ None → HasNoFault end × AllByRecursion (λ (x : RankedReport S R). HasNoFault x.end) rs
-      by Done e = (tt, none-faulty rs e)
-      by Stopped e = (tt, none-faulty rs e)
-      by (Fault fault) e = absurd (let a = fault-stays fault rs in let b = sym a ∙ e in cc)
+      by : (fault_in None rs ≡ None → AllByRecursion (λ (x : RankedReport S R). HasNoFault x.end) rs) → (end : End) → fault_in (first_fault None end) rs ≡ None
+          → HasNoFault end × AllByRecursion (λ (x : RankedReport S R). HasNoFault x.end) rs
+      by later Done e = (tt, later e)
+      by later Stopped e = (tt, later e)
+      by later (Fault fault) e = absurd (let a = fault-stays fault rs in let b = sym a ∙ e in cc)
 
   -- a joined seat has seen the stop word set where one of its parts had
   saw-stays : (stations : List (RankedStation S R)) (seat : OpenSeatView) → seat.saw ≡ true → (stop_with seat stations).saw ≡ true

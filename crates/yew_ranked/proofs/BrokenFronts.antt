@@ -17,7 +17,7 @@ use Rattle.yew_log.specs.Segment.{segment, Begins, Rise, HasParent, IsOnce, OneO
 use Rattle.yew_log.proofs.Blocks.{judgement_paths-append}
 use Rattle.yew_log.proofs.Growth.{covered_paths-append}
 
-all-front : {X : Type 0} (P : X → Type 0) (xs ys : List X) → AllByRecursion P (xs ++ ys) → AllByRecursion P xs
+pub all-front : {X : Type 0} (P : X → Type 0) (xs ys : List X) → AllByRecursion P (xs ++ ys) → AllByRecursion P xs
 all-front P [] ys a = tt
 all-front P (x ∷ xs) ys a = (a.0, all-front P xs ys a.1)
 
@@ -25,7 +25,7 @@ all_flat-front : {X Y : Type 0} (P : Y → Type 0) (f : X → List Y) (xs ys : L
 all_flat-front P f xs ys a = all-front P (flat_map f xs) (flat_map f ys) (subst (AllByRecursion P) (flat_map-append f xs ys) a)
 
 -- a fact that does not look at what comes after
-each-front : {X : Type 0} (P : List X → X → Type 0) (before xs ys : List X) → AtEach (λ b x a. P b x) before (xs ++ ys) → AtEach (λ b x a. P b x) before xs
+pub each-front : {X : Type 0} (P : List X → X → Type 0) (before xs ys : List X) → AtEach (λ b x a. P b x) before (xs ++ ys) → AtEach (λ b x a. P b x) before xs
 each-front P before [] ys a = tt
 each-front P before (x ∷ xs) ys a = (a.0, each-front P (before ++ x ∷ []) xs ys a.1)
 
@@ -36,7 +36,7 @@ nothing-front (x ∷ xs) ys e = absurd (cc)
 once-front : (ps qs rs : List (List ℕ)) → ps ≡ qs ++ rs → IsOnce ps → IsOnce qs
 once-front ps qs rs e once path = let a = ap (occurs path) e in let b = sum_by-append (only path) qs rs in let c = once path in omega (arith, a, b, c)
 
-kinds-front : (xs ys : List Note) → OneOfAKind (xs ++ ys) → OneOfAKind xs
+pub kinds-front : (xs ys : List Note) → OneOfAKind (xs ++ ys) → OneOfAKind xs
 kinds-front xs ys one = record {
   taken_once = once-front (taken_paths (xs ++ ys)) (taken_paths xs) (taken_paths ys) (flat_map-append taken_in xs ys) one.taken_once;
   judged_once = once-front (paths (judgements (xs ++ ys))) (paths (judgements xs)) (paths (judgements ys)) (judgement_paths-append xs ys) one.judged_once;

@@ -98,7 +98,7 @@ module _ {N : Type 0} (t : SearchTree N) {sound : N → Type 0} (ranked : IsRank
       (Contains-map (λ (m : Member N). record { path = m.path; node = m.node }) ms (record { path = path; node = n }) (tree-contains ranked path t.root n root at))
 
   -- what lies below a cut lies at or below its path
-  cut-inside : (path : List ℕ) (q : N) → at_path t path ≡ Some q → AllByRecursion (AtOrBelow path) (below t path)
+  pub cut-inside : (path : List ℕ) (q : N) → at_path t path ≡ Some q → AllByRecursion (AtOrBelow path) (below t path)
   cut-inside path q at = (ranked_induction ranked (Once t ranked) (once-step t ranked) q (node-sound path q at) path at).inside
 
   module _ (bounded : IsBounded sound t.children t.worth t.bound) {visits cuts : List RankedJudgement} (is : IsRankedSearch t visits cuts) where

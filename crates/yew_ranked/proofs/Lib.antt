@@ -20,3 +20,9 @@ pub mod Sharing
 pub mod AllEnds
 pub mod SettledParts
 pub mod BegunSearch
+pub mod TaskRanks
+pub mod ItemWalks
+pub mod HeldBehindFrontier
+pub mod ExactBehindFrontier
+pub mod WorkersLogs
+pub mod OrderedFaults

@@ -5,9 +5,10 @@ ghost use Rattle.yew_walk.specs.LogViews.{log_view};
 ghost use Rattle.yew_ranked.specs.OrderedSearch.{IsOrderedFound, IsOrderedFault};
 ghost use Rattle.yew_ranked.specs.Searching.{HasWorked, IsSettled};
 
+use crate::faults::faults_are_ordered;
 use crate::joining::{Parts, join_reports};
 use crate::station::{RankedReport, RankedShared};
-use crate::whole::{faults_are_ordered, parts_are_whole};
+use crate::whole::parts_are_whole;
 use std::alloc::Global;
 use yew_crew::gather;
 use yew_kinds::Tally;

@@ -10,6 +10,7 @@
 mod claim_steps;
 mod claim_view;
 mod claims;
+mod faults;
 mod laws;
 mod whole;
 mod starting;

@@ -1,14 +1,13 @@
 //! From what all workers of an ordered search have done to the whole search. Each function is a law: it does nothing, and
 //! its contract is proved once for all that cite it.
-ghost use Rattle.std.specs.Prelude.{◌≡◌, ℕ, ◌≤◌, List, Some, None, map, IsSome};
+ghost use Rattle.std.specs.Prelude.{◌≡◌, ℕ, ◌≤◌, List};
 ghost use Rattle.std.specs.List.{AllByRecursion};
 ghost use Rattle.yew_crew.specs.Gathering.{IsGathered};
 ghost use Rattle.yew_laws.specs.SearchTree.{search_tree};
 ghost use Rattle.yew_walk.specs.LogViews.{log_view};
-ghost use Rattle.yew_walk.specs.declared.fault.SearchFault as fault;
 ghost use Rattle.yew_walk.specs.declared.hand.Hand as hand;
-ghost use Rattle.yew_ranked.specs.Joining.{hands_of, logs_of, fault_in};
-ghost use Rattle.yew_ranked.specs.OrderedSearch.{IsOrderedFound, IsOrderedFault};
+ghost use Rattle.yew_ranked.specs.Joining.{hands_of, logs_of};
+ghost use Rattle.yew_ranked.specs.OrderedSearch.{IsOrderedFound};
 ghost use Rattle.yew_ranked.specs.Tasks.{Numbered};
 ghost use Rattle.yew_ranked.specs.Whole.{HasRankedWorked, AllDone, IsRankedSettled, ranked_stations};
 ghost use Rattle.yew_ranked.specs.declared.station.RankedReport.{RankedReport};
@@ -27,19 +26,6 @@ pub(crate) fn parts_are_whole<P: Problem, T: Tally<P::Node>, R: Recorder>(proble
         → IsGathered (T.join tally.now) (T.none tally.now) (hands_of (ranked_stations reports)) found → logs ≡ logs_of (ranked_stations reports)
         → AllByRecursion (λ (r : RankedReport T.Sum R). T.fits tally.now r.station.hand.sum) reports
         → IsOrderedFound t (T.join tally.now) (T.none tally.now) (T.of tally.now) (λ log. log_view (R.told log) (R.totals log) (R.number log)) depth workers found logs }
-{
-    let _ = problem;
-    let _ = tally;
-}
-
-pub(crate) fn faults_are_ordered<P: Problem, T: Tally<P::Node>, R: Recorder>(problem: &P, tally: &T)
-    requires { P.sound problem.now (P.root problem.now) }
-    ensures { (depth workers : ℕ) (tasks : List Numbered) (reports : List (RankedReport T.Sum R)) (why : fault.SearchFault) →
-        let t = search_tree P.Problem problem.now in
-        1 ≤ depth
-        → HasRankedWorked t (T.join tally.now) (T.none tally.now) (T.of tally.now) (λ log. log_view (R.told log) (R.totals log) (R.number log)) depth tasks workers reports
-        → fault_in None reports ≡ Some why
-        → IsOrderedFault t depth workers ((log : R) × IsSome (R.told log)) why }
 {
     let _ = problem;
     let _ = tally;
