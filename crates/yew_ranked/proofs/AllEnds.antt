@@ -97,11 +97,13 @@ module _ {S R : Type 0} where
         quiet Done b is calm zero = is.no_stop ∙ (is.working.no_stop ∙ zero)
         quiet Stopped b is calm zero = is.no_stop ∙ zero
         quiet (Fault fault) b is calm zero = absurd calm
+
         own : (end : End) (b : RankedStation S R) → IsRankedEnd t join none of seen tasks b first.station end → HasNoFault end
             → (stop_with first.station.stop (ranked_stations rest)).stops ≡ 0 → IsEndDone end
         own Done b is calm zero = tt
         own Stopped b is calm zero = absurd (let more = exact (saw-stays (ranked_stations rest) first.station.stop is.saw) in omega arith)
         own (Fault fault) b is calm zero = absurd calm
+
         by : (bs : List (RankedStation S R)) → AreRankedReports t join none of seen depth tasks bs (first ∷ rest) → AllByRecursion (λ (b : RankedStation S R). b.stop.stops ≡ 0) bs
             → AllByRecursion (λ (r : RankedReport S R). HasNoFault r.end) (first ∷ rest) → AllByRecursion (λ (r : RankedReport S R). IsEndDone r.end) reports
         by [] are' begins' ends' = absurd are'

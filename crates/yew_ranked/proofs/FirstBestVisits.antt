@@ -24,12 +24,12 @@ use Rattle.yew_ranked.proofs.PathOrder.{before-not_itself, before-not_both, befo
 use Rattle.yew_ranked.proofs.Preorder.{IsFrom, worth-at_most, best-from_first, best-some_worth}
 
 -- a node that a worth or a bound is of
-record AtNode {N : Type 0} (found : Option N) (of : N → ℕ) (value : ℕ) : Type 0 where
+pub record AtNode {N : Type 0} (found : Option N) (of : N → ℕ) (value : ℕ) : Type 0 where
   pub node : N
   pub is : found ≡ Some node
   pub value_is : of node ≡ value
 
-at-node : {N : Type 0} (found : Option N) (of : N → ℕ) (value : ℕ) → option_map of found ≡ Some value → AtNode found of value
+pub at-node : {N : Type 0} (found : Option N) (of : N → ℕ) (value : ℕ) → option_map of found ≡ Some value → AtNode found of value
 at-node None of value e = absurd (none-some value e)
 at-node (Some n) of value e = record { node = n; is = refl; value_is = same_Some (of n) value e }
 
@@ -87,7 +87,7 @@ module _ {N : Type 0} (t : SearchTree N) {sound : N → Type 0} (ranked : IsRank
         above = all-weighs is_path is_path-same is_path-is (AtOrBelow c.path) (below t c.path) path (inside c (0, omega arith, refl)) (omega arith);
       }
 
-  node-sound : (path : List ℕ) (n : N) → at_path t path ≡ Some n → sound n
+  pub node-sound : (path : List ℕ) (n : N) → at_path t path ≡ Some n → sound n
   node-sound path n at = all-at (λ (m : Member N). sound m.node) (tree t.children t.rank t.root) (record { path = path; node = n }) (tree-sound ranked t.root root) (tree-contains ranked path t.root n root at)
 
   -- a path of the tree is one of its paths
@@ -144,17 +144,16 @@ module _ {N : Type 0} (t : SearchTree N) {sound : N → Type 0} (ranked : IsRank
           same-worth : (bound item worth other word g : ℕ) → g ≤ bound → worth ≤ g → ranked_key item bound ≤ word → word ≡ ranked_key other worth → worth ≡ g
           same-worth bound item worth other word g over at_most permitted is = omega arith
 
-          no-later : (bound item worth other word g : ℕ) → g ≤ bound → worth ≤ g → item ≤ 1048576 → other < 1048576 → ranked_key item bound ≤ word → word ≡ ranked_key other worth → other ≤ item
-          no-later bound item worth other word g over at_most few few' permitted is = omega arith
+          no-later : (bound item worth other word g : ℕ) → g ≤ bound → worth ≤ g → other < 1048576 → ranked_key item bound ≤ word → word ≡ ranked_key other worth → other ≤ item
+          no-later bound item worth other word g over at_most few permitted is = omega arith
 
           by : (above : IsCutAbove cuts first) → greatest t ≤ above.cut.value → key_of_judgement above.cut ≤ above.cut.word → IsOfferedBefore visits above.cut → ⊥
           by above over permitted o =
               let c = above.cut in let u = o.visit in
               let at_most = visit-at_most u o.among in
-              let few = all-at (λ (v : RankedJudgement). v.item ≤ 1048576) cuts c is.cut_items above.among in
-              let few' = visit-item u o.among in
+              let few = visit-item u o.among in
               let worth = same-worth c.value c.item u.value u.item c.word (greatest t) over at_most permitted o.word_is in
-              let order = no-later c.value c.item u.value u.item c.word (greatest t) over at_most few few' permitted o.word_is in
+              let order = no-later c.value c.item u.value u.item c.word (greatest t) over at_most few permitted o.word_is in
               let before : IsTrue (comes_before u.path c.path) =
               elim (ℕ_discrete u.item c.item) [ yes same ↦ o.earlier same | no other ↦ is.cuts_rise u c o.among above.among (less u.item c.item order other) ] in
               none-before u o.among worth (subst (λ (p : List ℕ). IsTrue (comes_before u.path p)) (sym above.above.is) (before-below u.path c.path above.above.rest before))

@@ -26,7 +26,7 @@ better-none i = by (nat_lt i.worth 0) refl
         no n e = grind (arith, nat_tests)
     by false e = refl
 
-answer-append : (i : Incumbent) (xs ys : List RankedJudgement) → ranked_answer i (xs ++ ys) ≡ ranked_answer (ranked_answer i xs) ys
+pub answer-append : (i : Incumbent) (xs ys : List RankedJudgement) → ranked_answer i (xs ++ ys) ≡ ranked_answer (ranked_answer i xs) ys
 answer-append i [] ys = refl
 answer-append i (v ∷ vs) ys = answer-append (improved i (answer_key_of v) v.path) vs ys
 

@@ -47,7 +47,7 @@ precedes-sibling path k x y a (high, b) =
     }
 
 -- a path below another is it with a rest
-below-splits : (path q : List ℕ) → IsTrue (lies_below path q) → AtOrBelow path q
+pub below-splits : (path q : List ℕ) → IsTrue (lies_below path q) → AtOrBelow path q
 below-splits [] q h = record { rest = q; is = refl }
 below-splits (j ∷ path) [] h = absurd (no h)
   where

@@ -16,7 +16,6 @@ use Rattle.yew_ranked.specs.declared.station.RankedShared.{RankedShared}
 use Rattle.yew_ranked.specs.declared.station.RankedStation.{RankedStation}
 
 module _ {S R : Type 0} where
-
   -- the shares that a seated station has are its own
   shares-own : (shared : RankedShared) (share : ℕ) (station : RankedStation S R) → IsSeated shared share station → station ≡ with_shares share station
   shares-own shared share station is =

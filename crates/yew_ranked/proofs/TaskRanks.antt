@@ -1,7 +1,7 @@
 -- The tasks of a tree: their numbers rise, and each is an item at the depth of tasks.
-use Rattle.std.proofs.Common.{◌≡◌, ℕ, zero, suc, ◌+◌, ◌<◌, ◌≤◌, ◌⊎◌, inl, inr, Bool, true, false, Some, None, if◌then◌else◌, List, [], ◌∷◌, ◌++◌, map, length, max, nat_lt, refl, ap, ap₂, sym, subst, ◌∙◌, arith}
+use Rattle.std.proofs.Common.{◌≡◌, ℕ, zero, suc, ◌+◌, ◌<◌, ◌≤◌, ◌⊎◌, inl, inr, Bool, true, false, Some, if◌then◌else◌, List, [], ◌∷◌, ◌++◌, length, max, nat_lt, refl, ap, subst, arith}
 use Rattle.std.specs.Prelude.{IsTrue, slice_get}
-use Rattle.std.specs.List.{AllByRecursion, flat_map}
+use Rattle.std.specs.List.{AllByRecursion}
 use Rattle.std.proofs.lemmas.List.{length-append}
 use Rattle.std.proofs.lemmas.Option.{none-some, same_Some}
 use Rattle.yew_laws.specs.SearchTree.{SearchTree}

@@ -70,13 +70,13 @@ module _ {N : Type 0} (t : SearchTree N) where
     judged = is.judged;
   }
 
-  task-parts : (tasks : List Numbered) (places : List ℕ) (walks : List KeyedSegment) → AreTaskWalks t tasks places walks → ArePartsAt t tasks places walks
+  pub task-parts : (tasks : List Numbered) (places : List ℕ) (walks : List KeyedSegment) → AreTaskWalks t tasks places walks → ArePartsAt t tasks places walks
   task-parts tasks [] [] are = tt
   task-parts tasks [] (w ∷ ws) are = absurd are
   task-parts tasks (p ∷ ps) [] are = absurd are
   task-parts tasks (p ∷ ps) (w ∷ ws) are = (task-part tasks p w are.0, task-parts tasks ps ws are.1)
 
-  task-segments : (tasks : List Numbered) (places : List ℕ) (walks : List KeyedSegment) → AreTaskWalks t tasks places walks → AllByRecursion (IsSegment t) (segments_of walks)
+  pub task-segments : (tasks : List Numbered) (places : List ℕ) (walks : List KeyedSegment) → AreTaskWalks t tasks places walks → AllByRecursion (IsSegment t) (segments_of walks)
   task-segments tasks [] [] are = tt
   task-segments tasks [] (w ∷ ws) are = absurd are
   task-segments tasks (p ∷ ps) [] are = absurd are

@@ -43,7 +43,6 @@ module _ {N : Type 0} (t : SearchTree N) where
     pub worths : AllByRecursion (λ (v : RankedJudgement). worth_at t v.path ≡ Some v.value) visits
     pub bounds : AllByRecursion (λ (c : RankedJudgement). bound_at t c.path ≡ Some c.value) cuts
     pub visit_items : AllByRecursion (λ (v : RankedJudgement). v.item < 2 ^ 20) visits
-    pub cut_items : AllByRecursion (λ (c : RankedJudgement). c.item ≤ 2 ^ 20) cuts
     pub visits_rise : (u v : RankedJudgement) → Contains visits u → Contains visits v → u.item < v.item → IsTrue (comes_before u.path v.path)
     pub cuts_rise : (u c : RankedJudgement) → Contains visits u → Contains cuts c → u.item < c.item → IsTrue (comes_before u.path c.path)
     pub permitted : AllByRecursion (λ (c : RankedJudgement). key_of_judgement c ≤ c.word) cuts

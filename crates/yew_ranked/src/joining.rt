@@ -110,10 +110,7 @@ fn take_apart<S: Drop, R: Drop>(
 }
 
 // What the first worker carried.
-fn begin<S: Drop, R: Drop>(
-    alloc: Global,
-    report: RankedReport<S, R>,
-) -> Result<Parts<S, R>, Memory>
+fn begin<S: Drop, R: Drop>(alloc: Global, report: RankedReport<S, R>) -> Result<Parts<S, R>, Memory>
     ensures { IfOk result (IsFirst report) }
 {
     let RankedReport { station, end } = report;

@@ -10,18 +10,18 @@
 mod claim_steps;
 mod claim_view;
 mod claims;
-mod faults;
-mod laws;
-mod whole;
-mod starting;
-mod ordered;
-mod joining;
-mod frontier;
 mod ending;
+mod faults;
+mod frontier;
+mod joining;
+mod laws;
+mod ordered;
+mod starting;
 mod station;
 mod task;
 #[cfg(test)]
 mod tests;
+mod whole;
 mod worker;
 
 pub use claims::{ClaimSeat, Claims};

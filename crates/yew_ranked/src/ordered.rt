@@ -264,7 +264,13 @@ fn reach<P: Problem, S: Drop, R: Recorder, G: Gate, H: Threads + Wait + Sync>(
 /// `Memory` where memory ran out. `TooManyTasks` where there are more than 2^20 items, so that one would need the number
 /// 2^20. `AuditFull` where the log of a worker that tells its entries had no room for the next one, which is that of the
 /// first worker where there are too many items.
-pub fn search_ordered<P: Problem, T: Tally<P::Node>, R: Recorder, G: Gate, H: Threads + Wait + Sync>(
+pub fn search_ordered<
+    P: Problem,
+    T: Tally<P::Node>,
+    R: Recorder,
+    G: Gate,
+    H: Threads + Wait + Sync,
+>(
     rt: &H,
     alloc: Global,
     problem: &P,

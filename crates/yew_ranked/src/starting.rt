@@ -38,9 +38,9 @@ fn split_off<N, T: Tally<N>, R: Recorder>(
     requires stop_share { 1 < first.old.stop.share }
     ensures new { IfOk result (IsNewStation (T.none tally.now) (λ log. log_view (R.told log) (R.totals log) (R.number log)) shared.now number) }
     ensures first { OnOk result (first.new ≡ record first.old {
-        best = record first.old.best { share = first.old.best.share - 1 };
-        claims = record first.old.claims { share = first.old.claims.share - 1 };
-        stop = record first.old.stop { share = first.old.stop.share - 1 };
+      best = record first.old.best { share = first.old.best.share - 1 };
+      claims = record first.old.claims { share = first.old.claims.share - 1 };
+      stop = record first.old.stop { share = first.old.stop.share - 1 };
     }) }
 {
     let best = shared.best.split(&mut first.best);

@@ -21,7 +21,7 @@ overflow_cast-numbers g c =
     let t = search_tree meaning problem in
     let path = c.args.task.now.path.numbers in
     let found = member-task t (meaning.ranked problem) c.requires.root path c.in-Some.node
-        (subst (λ o. IfSome o (λ node. Contains (preorder t) (record { path = path; node = node }))) c.in-Some.is c.in_ok-node.ensures.some) in
+    (subst (λ o. IfSome o (λ node. Contains (preorder t) (record { path = path; node = node }))) c.in-Some.is c.in_ok-node.ensures.some) in
     omega (arith, ap length c.numbers.ensures.value, node_at-rank (meaning.ranked problem) path (meaning.root problem) c.in-Some.node c.requires.root found.1, meaning.root_rank problem c.requires.root)
 
 pub returns-clause-task : goal.returns-clause-task
@@ -31,5 +31,5 @@ returns-clause-task g c =
     let t = search_tree meaning problem in
     let path = c.args.task.now.path.numbers in
     let found = member-task t (meaning.ranked problem) c.requires.root path c.in-Some.node
-        (subst (λ o. IfSome o (λ node. Contains (preorder t) (record { path = path; node = node }))) c.in-Some.is c.in_ok-node.ensures.some) in
+    (subst (λ o. IfSome o (λ node. Contains (preorder t) (record { path = path; node = node }))) c.in-Some.is c.in_ok-node.ensures.some) in
     record { is_sound = found.0; found = ap (at_path t) c.set.ensures.numbers ∙ found.1 }
