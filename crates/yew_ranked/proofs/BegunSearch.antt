@@ -16,11 +16,10 @@ use Rattle.yew_ranked.specs.OrderedSearch.{IsOrderedFault}
 use Rattle.yew_ranked.specs.Searching.{IsBegun, HasWorked}
 use Rattle.yew_ranked.specs.Starting.{IsSeated, with_shares, AreStations}
 use Rattle.yew_ranked.specs.Stations.{IsRankedReady}
-use Rattle.yew_ranked.specs.Tasks.{Numbered, numbered_task, tasks_from, tasks_of_tree, IsTaskOf}
+use Rattle.yew_ranked.specs.Tasks.{Numbered, numbered_task, tasks_from, tasks_of_tree}
 use Rattle.yew_ranked.specs.Whole.{IsFirstStation, IsRankedCrew}
 use Rattle.yew_ranked.specs.declared.station.RankedShared.{RankedShared}
 use Rattle.yew_ranked.specs.declared.station.RankedStation.{RankedStation}
-use Rattle.yew_ranked.specs.declared.task.RankedTask.{RankedTask}
 use Rattle.yew_ranked.proofs.Sharing.{new-fresh, new-seated, new-ready}
 
 one-more : (b : Bool) (x : Numbered) (xs : List Numbered) (n : ℕ) → length xs ≤ n → length ((if b then x ∷ [] else []) ++ xs) ≤ suc n
@@ -31,12 +30,6 @@ one-more false x xs n few = omega (arith, few)
 pub on-ok : {X E : Type 0} {F : Type 0} (result : Result X E) → F → OnOk result F
 on-ok (Ok x) f = f
 on-ok (Err e) f = tt
-
--- a fact of the tasks as contracts see them gives one of the tasks
-pub each-task : {N : Type 0} (t : SearchTree N) (Q : Numbered → Type 0) → ((task : RankedTask) → Q (numbered_task task) → IsTaskOf t task) → (tasks : List RankedTask)
-    → AllByRecursion Q (map numbered_task tasks) → AllByRecursion (IsTaskOf t) tasks
-each-task t Q f [] all = tt
-each-task t Q f (task ∷ tasks) all = (f task all.0, each-task t Q f tasks all.1)
 
 -- there are no more tasks than items
 tasks-few : (rank : ℕ) (items : List Item) → length (tasks_from rank items) ≤ length items

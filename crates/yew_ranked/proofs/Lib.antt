@@ -3,8 +3,15 @@ pub mod GatheredAnswers
 pub mod ClaimSeating
 pub mod ClaimTies
 pub mod FirstBestVisits
+pub mod FrontierEnds
+pub mod FrontierEnters
 pub mod FrontierItems
+pub mod FrontierLevels
+pub mod FrontierOrder
+pub mod FrontierSteps
+pub mod FrontierStops
 pub mod ItemPlaces
+pub mod NotedItems
 pub mod PathOrder
 pub mod Preorder
 pub mod RankedAnswers

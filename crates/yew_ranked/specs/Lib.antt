@@ -2,6 +2,7 @@ pub mod ClaimRule
 pub mod ClaimSeats
 pub mod ClaimViews
 pub mod Frontier
+pub mod FrontierStates
 pub mod FrontierWalk
 pub mod OrderedSearch
 pub mod Joining

@@ -45,7 +45,7 @@ pub fn empty_hand<N, T: Tally<N>>(alloc: Global, tally: &T) -> Result<Hand<T::Su
 impl<S: Drop> Hand<S> {
     /// Takes the worth of a visited node into account. The path is copied only where the key is greater.
     #[inline(always)]
-    pub(crate) fn keep(&mut self, keying: Keying, worth: u64, path: &Path)
+    pub fn keep(&mut self, keying: Keying, worth: u64, path: &Path)
         requires keying { IsKeying keying }
         requires worth { worth < 2 ^ 40 }
         requires space { length path.now.numbers ≤ self.old.path.space }
