@@ -1,5 +1,5 @@
 -- What an ordered search begins with, and why it did not begin.
-use Rattle.std.proofs.Common.{◌≡◌, ℕ, suc, ◌+◌, ◌<◌, ◌≤◌, ◌^◌, ◌∙◌, List, [], ◌∷◌, ◌++◌, Bool, true, false, if◌then◌else◌, length, map, refl, sym, ap, subst, arith}
+use Rattle.std.proofs.Common.{◌≡◌, ℕ, suc, ◌+◌, ◌<◌, ◌≤◌, ◌^◌, ◌∙◌, List, [], ◌∷◌, ◌++◌, Bool, true, false, if◌then◌else◌, Result, Ok, Err, OnOk, length, map, refl, sym, ap, subst, arith}
 use Rattle.std.specs.Prelude.{IsSome, IfSome}
 use Rattle.std.specs.List.{AllByRecursion}
 use Rattle.std.proofs.lemmas.List.{length-map}
@@ -25,6 +25,11 @@ use Rattle.yew_ranked.proofs.Sharing.{new-fresh, new-seated, new-ready}
 one-more : (b : Bool) (x : Numbered) (xs : List Numbered) (n : ℕ) → length xs ≤ n → length ((if b then x ∷ [] else []) ++ xs) ≤ suc n
 one-more true x xs n few = omega (arith, few)
 one-more false x xs n few = omega (arith, few)
+
+-- what holds anyway holds where a call answers Ok
+pub on-ok : {X E : Type 0} {F : Type 0} (result : Result X E) → F → OnOk result F
+on-ok (Ok x) f = f
+on-ok (Err e) f = tt
 
 -- there are no more tasks than items
 tasks-few : (rank : ℕ) (items : List Item) → length (tasks_from rank items) ≤ length items
@@ -55,7 +60,7 @@ module _ {N S R : Type 0} (t : SearchTree N) (join : S → S → S) (none : S) (
 
   pub begun-few : length shared.tasks.items ≤ 2 ^ 20
   begun-few =
-      let a = length-map numbered_task shared.tasks.items in let c = ap length b.first_is.frontier.tasks_are in
+      let a = length-map shared.tasks.items numbered_task in let c = ap length b.first_is.frontier.tasks_are in
       let d = tasks-few 0 (items_of t depth) in let e = begun-items in omega arith
 
   module _ (stations : List (RankedStation S R)) (are : AreStations none seen shared workers first stations) where

@@ -1,5 +1,6 @@
 -- The seats of all workers of an ordered search, once they have worked: they are of the shared objects, with the whole shares.
-use Rattle.std.proofs.Common.{◌≡◌, ℕ, suc, ◌+◌, ◌<◌, ◌≤◌, ◌⊎◌, ◌∙◌, true, List, [], ◌∷◌, ◌++◌, All, Contains, Option, Some, None, map, length, refl, sym, ap, subst, append-nil, append_assoc, arith}
+use Rattle.std.proofs.Common.{◌≡◌, ℕ, suc, ◌+◌, ◌<◌, ◌≤◌, ◌⊎◌, ◌∙◌, true, List, [], ◌∷◌, ◌++◌, All, Contains, Option, Some, None}
+use Rattle.std.proofs.Common.{map, length, refl, sym, ap, subst, append-nil, append_assoc, arith}
 use Rattle.std.specs.List.{AllByRecursion, flat_map}
 use Rattle.yew_best.specs.Seats.{BestId, SeatView}
 use Rattle.yew_crew.specs.OpenSeats.{OpenId, OpenSeatView}

@@ -44,7 +44,8 @@ module _ {S R : Type 0} where
           → IsNewStation none seen shared number station → IsSharing none seen shared workers begun next (others ++ station ∷ [])
       sharing-next now next others number station w is few next_is new = record {
         share = w.share - 1;
-        now_is = next_is ∙ ap (λ (x : RankedStation S R). record x { best = record x.best { share = x.best.share - 1 }; claims = record x.claims { share = x.claims.share - 1 }; stop = record x.stop { share = x.stop.share - 1 } }) w.now_is;
+        now_is = next_is
+            ∙ ap (λ (x : RankedStation S R). record x { best = record x.best { share = x.best.share - 1 }; claims = record x.claims { share = x.claims.share - 1 }; stop = record x.stop { share = x.stop.share - 1 } }) w.now_is;
         left = (let a = length-append others (station ∷ []) in let b = w.left in omega arith);
         others_are = are-new-push 2 others station w.others_are (subst (λ n. IsNewStation none seen shared n station) (let e : number ≡ 2 + length others = omega arith in e) new);
       }

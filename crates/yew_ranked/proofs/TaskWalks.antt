@@ -37,7 +37,9 @@ module _ {P N K S R : Type 0} (meaning : Ghosts P N K) (problem : P) (join : S �
       → IsWalked meaning problem (Ranked task.rank) join of plain_policy path none made (scene before.best before.hand tt sent0 None (seen before.log)) (scene best hand tt sent None (seen log))
       → best.best ≡ before.best.best → best.share ≡ before.best.share → 65535 ≤ hand.path.space
       → IsTaskStep (search_tree meaning problem) join none of seen task before (record before { best = best; hand = hand; log = log })
-  task-walked path is made ranks root there walked seat_is share_is room = by (subst (λ p. IsWalked meaning problem (Ranked task.rank) join of plain_policy p none made (scene before.best before.hand tt sent0 None (seen before.log)) (scene best hand tt sent None (seen log))) is walked)
+  task-walked path is made ranks root there walked seat_is share_is room =
+      by (subst (λ p. IsWalked meaning problem (Ranked task.rank) join of plain_policy p none made (scene before.best before.hand tt sent0 None (seen before.log))
+      (scene best hand tt sent None (seen log))) is walked)
     where
       by : IsWalked meaning problem (Ranked task.rank) join of plain_policy task.path none made (scene before.best before.hand tt sent0 None (seen before.log)) (scene best hand tt sent None (seen log))
           → IsTaskStep (search_tree meaning problem) join none of seen task before (record before { best = best; hand = hand; log = log })

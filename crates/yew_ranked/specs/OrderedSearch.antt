@@ -16,10 +16,12 @@ use Rattle.yew_walk.specs.declared.hand.Hand.{Hand}
 use Rattle.yew_ranked.specs.RankedSearch.{IsFirstAnswer}
 
 module _ {N : Type 0} (t : SearchTree N) (depth workers : ℕ) where
-  -- Why an ordered search was refused: memory ran out; or the log of a worker, which tells its entries, had no room for the next one, and that is the first worker's where there are too many items; or there are more than 2^20 items, so that one would need the number 2^20
+  -- Why an ordered search was refused: memory ran out; or the log of a worker, which tells its entries, had no room for the next one,
+  -- and that is the first worker's where there are too many items; or there are more than 2^20 items, so that one would need the number 2^20
   abbrev pub IsOrderedFault : Type 0 → SearchFault → Type 0
   IsOrderedFault tells Memory = Unit {0}
-  IsOrderedFault tells (AuditFull worker entries numbers) = tells × ((1 ≤ worker) × (worker ≤ workers) × (2 ^ 20 < length (items_of t depth) → worker ≡ 1) × IsAuditFull t 0 (in_order depth) workers entries numbers)
+  IsOrderedFault tells (AuditFull worker entries numbers) =
+      tells × ((1 ≤ worker) × (worker ≤ workers) × (2 ^ 20 < length (items_of t depth) → worker ≡ 1) × IsAuditFull t 0 (in_order depth) workers entries numbers)
   IsOrderedFault tells (TooManyTasks number) = (number ≡ 2 ^ 20) × (2 ^ 20 < length (items_of t depth))
 
 module _ {N S R : Type 0} (t : SearchTree N) (join : S → S → S) (none : S) (of : N → ℕ → S) (seen : R → LogView) (depth workers : ℕ) where

@@ -109,7 +109,8 @@ pub(crate) fn start<P: Problem, T: Tally<P::Node>, R: Recorder, G: Gate, H: Thre
     ensures fits { IfOk result (λ reports. AllByRecursion (λ (r : ReportValue T.Sum R). T.fits tally.now r.station.hand.sum) reports.items) }
 {
     let work = |station: RankedStation<T::Sum, R>| -> RankedReport<T::Sum, R>
-        requires { IsSync H.row × P.sound problem.now (P.root problem.now) × AllByRecursion (IsTaskOf (search_tree P.Problem problem.now)) shared.now.tasks.items × (length shared.now.tasks.items ≤ 2 ^ 20) × IsRankedReady (T.fits tally.now) shared.now station }
+        requires { IsSync H.row × P.sound problem.now (P.root problem.now) × AllByRecursion (IsTaskOf (search_tree P.Problem problem.now)) shared.now.tasks.items
+            × (length shared.now.tasks.items ≤ 2 ^ 20) × IsRankedReady (T.fits tally.now) shared.now station }
         ensures { IsRankedReport (search_tree P.Problem problem.entry.now) (T.join tally.entry.now) (T.none tally.entry.now) (T.of tally.entry.now)
             (λ log. log_view (R.told log) (R.totals log) (R.number log)) (map numbered_task shared.entry.now.tasks.items) station result × T.fits tally.entry.now result.station.hand.sum }
     { ranked_worker(rt, alloc, problem, tally, shared, gate, station) };

@@ -28,8 +28,8 @@ close-requires-clause-whole g c =
     ∙ whole-best (search_tree g.P.Problem c.args.problem.now) (g.T.Tally.join tally) (g.T.Tally.none tally) (g.T.Tally.of tally) (λ l. log_view (g.R.Recorder.told l) (g.R.Recorder.totals l) (g.R.Recorder.number l))
     (g.T.Tally.fits tally) c.args.depth c.args.workers c.args.worked.shared c.args.worked.reports.items c.requires parts.first parts.rest parts.stands
 
-pub close-2-requires-clause-whole : goal.close-2-requires-clause-whole
-close-2-requires-clause-whole g c =
+pub close-requires-2-clause-whole : goal.close-requires-2-clause-whole
+close-requires-2-clause-whole g c =
     let tally = c.args.tally.now in
     let parts = c.in_ok-best_seat.ensures.parts in
     ap (λ (s : ClaimSeatView). s.share) parts.claims

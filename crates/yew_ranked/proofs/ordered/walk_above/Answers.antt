@@ -34,7 +34,7 @@ returns-clause-begun g c =
         stop_share = ap (λ (s : OpenSeatView). s.share) stop_is;
       };
       first_is = record {
-        first = c.in_ok-best.seat;
+        first = c.in_ok-best.best_seat;
         walked = c.walk_frontier.new.seat;
         begun = log_view (g.R.Recorder.told log) (g.R.Recorder.totals log) (g.R.Recorder.number log);
         frontier = c.in-Ok.ensures.walked;

@@ -4,14 +4,14 @@ use Rattle.yew_walk.specs.LogViews.{log_view}
 use Rattle.yew_ranked.proofs.BegunSearch.{begun-items, begun-few, begun-ready, begun-seated, begun-crew}
 use Rattle.yew_ranked.proofs.ordered.walk_tasks.Goals as goal
 
-pub start-reports-requires-clause-few : goal.start-reports-requires-clause-few
-start-reports-requires-clause-few g c κs within =
+pub start-requires-clause-few : goal.start-requires-clause-few
+start-requires-clause-few g c κs within =
     let tally = c.args.tally.now in
     begun-few (search_tree g.P.Problem c.args.problem.now) (g.T.Tally.join tally) (g.T.Tally.none tally) (g.T.Tally.of tally) (λ l. log_view (g.R.Recorder.told l) (g.R.Recorder.totals l) (g.R.Recorder.number l))
     (g.T.Tally.fits tally) c.args.depth c.args.workers c.args.begun.shared c.args.begun.first c.requires.begun
 
-pub start-reports-requires-clause-ready : goal.start-reports-requires-clause-ready
-start-reports-requires-clause-ready g c κs within =
+pub start-requires-clause-ready : goal.start-requires-clause-ready
+start-requires-clause-ready g c κs within =
     let tally = c.args.tally.now in
     begun-ready (search_tree g.P.Problem c.args.problem.now) (g.T.Tally.join tally) (g.T.Tally.none tally) (g.T.Tally.of tally) (λ l. log_view (g.R.Recorder.told l) (g.R.Recorder.totals l) (g.R.Recorder.number l))
     (g.T.Tally.fits tally) c.args.depth c.args.workers c.args.begun.shared c.args.begun.first c.requires.begun c.in_ok-stations.stations.items c.in_ok-stations.ensures

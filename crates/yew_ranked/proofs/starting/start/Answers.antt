@@ -22,6 +22,7 @@ map_vec-requires-after_bounds g c κs within = λ i x h e.
         record { shared = b.sync-P.shared },
         record { shared = b.sync-T.shared },
         record { shared = b.sync-G.shared },
+        record { shared = b.sync-H.shared },
       ),
     )
 

@@ -20,7 +20,7 @@ returns-then-place-len-clause-turned g c = λ first fits w.
     first c.args.station.now w c.stopped.new.seat
     (ap (λ (v : OpenSeatView). v.tasks) c.stopped.ensures) (ap (λ (v : OpenSeatView). v.share) c.stopped.ensures) (ap (λ (v : OpenSeatView). v.stops) c.stopped.ensures)
     c.claim-place.new.seat c.claim-place.result c.claim-place.ensures.claimed
-    (omega (arith, c.if-place-len.true, c.len.ensures, length-map numbered_task c.args.shared.now.tasks.items))
+    (omega (arith, c.if-place-len.true, c.len.ensures, length-map c.args.shared.now.tasks.items numbered_task))
 
 pub returns-in-Ok-clause-turned : goal.returns-in-Ok-clause-turned
 returns-in-Ok-clause-turned g c = λ first fits w.
