@@ -96,7 +96,7 @@ complete -c yew -n '__yew_is_due skeleton' -a sequential -d 'one worker, in preo
 complete -c yew -n '__yew_is_due skeleton' -a depth -d 'each node down to a depth becomes a task'
 complete -c yew -n '__yew_is_due skeleton' -a budget -d 'a task gives work away after some backtracks'
 complete -c yew -n '__yew_is_due skeleton' -a steal -d 'an idle worker asks another for work'
-complete -c yew -n '__yew_is_due skeleton' -a ordered -d 'not here yet'
+complete -c yew -n '__yew_is_due skeleton' -a ordered -d 'tasks in the order of their numbers'
 
 complete -c yew -n '__yew_is_due kind' -a knapsack -d 'items of random profit and weight'
 complete -c yew -n '__yew_is_due kind' -a tsp -d 'cities of random distances'

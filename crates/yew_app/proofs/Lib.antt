@@ -9,9 +9,11 @@ pub mod MadeFiles
 pub mod Named
 pub mod OneWays
 pub mod OneWorkers
+pub mod OrderedSearches
 pub mod PlainAudits
 pub mod PlainLogs
 pub mod Plains
+pub mod Replicas
 pub mod ReportNumbers
 pub mod SearchTexts
 pub mod SearchedTrees

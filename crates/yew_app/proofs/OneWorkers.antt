@@ -22,7 +22,10 @@ use Rattle.yew_walk.specs.Kinds.{IsAnswer}
 use Rattle.yew_walk.specs.LogViews.{LogView}
 use Rattle.yew_walk.specs.PlainSearch.{searched_tree, HasPlainLog, IsPlainFault}
 use Rattle.yew_crew.specs.CrewSearch.{solution_of, IsCrewAnswer, HasCrewLogs, IsCrewFault}
-use Rattle.yew_app.specs.Texts.{first_node}
+use Rattle.yew_app.specs.declared.asked.Asked.{Asked}
+use Rattle.yew_app.specs.Asks.{table_of}
+use Rattle.yew_app.specs.Searches.{IsSearchFault}
+use Rattle.yew_app.specs.Texts.{first_node, HasTooManyItems}
 use Rattle.yew_app.proofs.SearchTexts.{plain-are_logs}
 
 module _ {N : Type 0} (t : SearchTree N) where
@@ -87,3 +90,9 @@ module _ {N : Type 0} (t : SearchTree N) where
         ),
       )
   crew-fault table workers tells (TooManyTasks number) in_preorder alone refused = refused
+
+  -- why a crew whose tasks have no order was refused is why a search was
+  pub crew-search_fault : (asked : Asked) (tells : Type 0) (fault : SearchFault) → ¬ HasTooManyItems t asked.skeleton → IsCrewFault t 0 (table_of asked.skeleton) asked.workers tells fault → IsSearchFault t asked tells fault
+  crew-search_fault asked tells Memory few refused = tt
+  crew-search_fault asked tells (AuditFull worker entries numbers) few refused = (refused.0, refused.1.0, refused.1.1, refused.1.2, λ many. absurd (few many))
+  crew-search_fault asked tells (TooManyTasks number) few refused = absurd refused

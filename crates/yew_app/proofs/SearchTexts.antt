@@ -1,5 +1,5 @@
 -- What is written behind an answer, of the logs of all workers, is the report and the audit of their entries.
-use Rattle.std.proofs.Common.{◌≡◌, ℕ, suc, ◌+◌, ◌-◌, ◌^◌, List, [], ◌∷◌, ◌++◌, map, Bool, true, false, Option, Some, None, refl, ap, sym, subst, ◌∙◌, arith, append-nil, append_assoc}
+use Rattle.std.proofs.Common.{◌≡◌, ℕ, suc, ◌+◌, ◌-◌, ◌^◌, List, [], ◌∷◌, ◌++◌, map, Bool, true, false, Option, Some, None, inl, inr, refl, ap, sym, subst, ◌∙◌, arith, append-nil, append_assoc}
 use Rattle.std.specs.Prelude.{if◌then◌else◌, IfSome, IsTrue, IsFalse}
 use Rattle.yew_laws.specs.SearchTree.{SearchTree}
 use Rattle.yew_log.specs.declared.entry.Totals.{Totals}
@@ -14,10 +14,12 @@ use Rattle.yew_log.proofs.Walks.{totals_after-append}
 use Rattle.yew_walk.specs.LogViews.{LogView, log_view}
 use Rattle.yew_walk.specs.PlainSearch.{HasPlainLog, IsPlainLog}
 use Rattle.yew_crew.specs.CrewSearch.{AreLogsOf}
-use Rattle.yew_app.specs.Asks.{IsSequential, IsAskable}
+use Rattle.yew_words.specs.declared.plan.Skeleton.{Skeleton}
+use Rattle.yew_words.specs.declared.plan.Skeleton.TheVariants.{Sequential, Depth, Budget, Steal, Ordered}
+use Rattle.yew_app.specs.Asks.{IsSequential, IsOrdered, FindsFirst, AsksFirst, IsAskable}
 use Rattle.yew_app.specs.declared.asked.Asked.{Asked}
 use Rattle.yew_app.specs.Meanings.{Meaning, searched, IsJobText}
-use Rattle.yew_app.specs.Searches.{totals_from, joint_totals, IsFirstFound, IsAnswered}
+use Rattle.yew_app.specs.Searches.{totals_from, joint_totals, IsAnswered}
 use Rattle.yew_app.specs.Texts.{first_node, IsFirstText}
 use Rattle.yew_app.proofs.PlainLogs.{one-log, audit-fits}
 
@@ -92,11 +94,55 @@ module _ (asked : Asked) where
       ∙ ap (λ nss. (if asked.report then report_text asked.workers (all_totals entries) else []) ++ audit_text nss) (notes-told 1 entries logs are)
       ∙ ap (λ (b : Bool). (if asked.report then report_text asked.workers (all_totals entries) else []) ++ (if b then audit_text entries else [])) (sym told)
 
+-- in preorder and with tasks in order the first best node is found
+pub sequential-finds : (skeleton : Skeleton) → IsSequential skeleton → FindsFirst skeleton
+sequential-finds skeleton is = subst FindsFirst (sym is) tt
+
+ordered-finds : (skeleton : Skeleton) → IsOrdered skeleton → FindsFirst skeleton
+ordered-finds Sequential is = tt
+ordered-finds (Depth depth) is = absurd is
+ordered-finds (Budget budget) is = absurd is
+ordered-finds (Steal all) is = absurd is
+ordered-finds (Ordered depth) is = tt
+
+-- where neither report nor audit is asked for, nothing stands behind an answer
+no-tail : (report audit : Bool) → IsFalse report → IsFalse audit → (workers : ℕ) (entries others : List (List Note)) → tail_text report audit workers entries ≡ tail_text report audit 1 others
+no-tail false false r a workers entries others = refl
+no-tail false true r a workers entries others = absurd (cc)
+no-tail true audit r a workers entries others = absurd (cc)
+
 module _ {X N : Type 0} (m : Meaning X N) (asked : Asked) (x : X) (askable : IsAskable asked) (first : IfSome (first_node (searched m x)) (IsFirstBest (searched m x) (seq_log (searched m x) 0))) where
   -- the text of an answer, where the tail is that of any entries of which these are the logs
   module _ {R : Type 0} (view : R → LogView) (lines tail text : List ℕ) (logs : List R)
       (spelled : (entries : List (List Note)) → AreLogsOf 1 entries (map view logs) → tail ≡ tail_text asked.report asked.audit asked.workers entries)
       (fits : HasPlainLog (searched m x) view logs → IsTrue asked.audit → ¬ MeetsLimits (seq_log (searched m x) 0)) where
+    -- its first line is that of the first best node
+    first-lines : IsAnswered m asked x view lines logs → text ≡ lines ++ tail → FindsFirst asked.skeleton → text ≡ m.lines x (first_node (searched m x)) ++ tail
+    first-lines answered text_is finds = text_is ∙ ap (λ l. l ++ tail) (answered.lines_are ∙ ap (m.lines x) (answered.first finds))
+
+    -- the text that one worker writes in preorder
+    first-text : IsAnswered m asked x view lines logs → text ≡ lines ++ tail → AsksFirst asked → IsFirstText (searched m x) asked.report asked.audit (m.lines x) text
+    first-text answered text_is (inl sequential) = record {
+      tail = tail;
+      text_is = first-lines answered text_is (sequential-finds asked.skeleton sequential);
+      is_first = record {
+        first = first;
+        text_is =
+            spelled (seq_log (searched m x) 0 ∷ []) (plain-are_logs view (searched m x) logs (answered.in_preorder sequential))
+            ∙ ap (λ w. tail_text asked.report asked.audit w (seq_log (searched m x) 0 ∷ [])) (askable.alone sequential);
+      };
+      fits = fits (answered.in_preorder sequential);
+    }
+    first-text answered text_is (inr plain) = record {
+      tail = tail;
+      text_is = first-lines answered text_is (ordered-finds asked.skeleton plain.0);
+      is_first = record {
+        first = first;
+        text_is = spelled answered.logs_are.entries answered.logs_are.each ∙ no-tail asked.report asked.audit plain.1 plain.2 asked.workers answered.logs_are.entries (seq_log (searched m x) 0 ∷ []);
+      };
+      fits = λ told. absurd (cc (told, plain.2));
+    }
+
     job-text : IsAnswered m asked x view lines logs → text ≡ lines ++ tail → IsJobText m asked x text
     job-text answered text_is = record {
       found = record {
@@ -108,18 +154,9 @@ module _ {X N : Type 0} (m : Meaning X N) (asked : Asked) (x : X) (askable : IsA
           are_logs = answered.logs_are.are_logs;
           text_is = spelled answered.logs_are.entries answered.logs_are.each;
         };
-        in_preorder = λ sequential.
-            let f = answered.in_preorder sequential in
-            record {
-              first = f.first;
-              is_first = record {
-                first = subst (λ (o : Option N). IfSome o (IsFirstBest (searched m x) (seq_log (searched m x) 0))) (sym f.first) first;
-                text_is =
-                    spelled (seq_log (searched m x) 0 ∷ []) (plain-are_logs view (searched m x) logs f.log)
-                    ∙ ap (λ w. tail_text asked.report asked.audit w (seq_log (searched m x) 0 ∷ [])) (askable.alone sequential);
-              };
-              fits = fits f.log;
-            };
+        first = answered.first;
+        first_text = first-text answered text_is;
+        few = answered.few;
       };
       right = subst (m.IsRight x) answered.lines_are answered.right;
     }

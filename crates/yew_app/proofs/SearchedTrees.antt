@@ -14,9 +14,9 @@ use Rattle.yew_log.specs.Groups.{Skeleton, sequential}
 use Rattle.yew_log.proofs.FullTrees.{IsAuditFull-large}
 use Rattle.yew_walk.specs.declared.fault.SearchFault.{SearchFault}
 use Rattle.yew_walk.specs.declared.fault.SearchFault.TheVariants.{Memory, AuditFull, TooManyTasks}
-use Rattle.yew_crew.specs.CrewSearch.{IsCrewFault}
 use Rattle.yew_app.specs.Asks.{table_of}
 use Rattle.yew_app.specs.declared.asked.Asked.{Asked}
+use Rattle.yew_app.specs.Searches.{IsSearchFault}
 use Rattle.yew_app.specs.Texts.{StopsSearch}
 use Rattle.yew_log.specs.SeqLog.{seq_log}
 use Rattle.yew_log.specs.WholeSearch.{AreLogs, IsFirstBest}
@@ -44,14 +44,15 @@ module _ {N : Type 0} (t : SearchTree N) {sound : N → Type 0} (ranked : IsRank
   searched-large (kinds.Reach target) gap skeleton workers entries numbers = IsAuditFull-large (clipped_tree t target) ranked root
 
   -- why a search that keeps an audit was refused is why it gives no text
-  pub searched-stops : (kind : Kind) (asked : Asked) (tells : Type 0) (fault : SearchFault) → IsTrue asked.audit → let u = searched_tree t kind in IsCrewFault u 0 (table_of asked.skeleton) asked.workers tells fault → StopsSearch u asked fault
+  pub searched-stops : (kind : Kind) (asked : Asked) (tells : Type 0) (fault : SearchFault) → IsTrue asked.audit → let u = searched_tree t kind in IsSearchFault u asked tells fault → StopsSearch u asked fault
   searched-stops kind asked tells Memory told refused = tt
   searched-stops kind asked tells (AuditFull worker entries numbers) told refused = record {
     asked_for = told;
-    from_one = refused.1.0;
-    to_last = refused.1.1;
-    is_full = refused.1.2;
-    large = searched-large kind 0 (table_of asked.skeleton) asked.workers entries numbers refused.1.2;
+    from_one = refused.1;
+    to_last = refused.2;
+    is_full = refused.3;
+    large = searched-large kind 0 (table_of asked.skeleton) asked.workers entries numbers refused.3;
+    first_worker = refused.4;
   }
   searched-stops kind asked tells (TooManyTasks number) told refused = refused
 
@@ -60,7 +61,7 @@ abbrev told_none : CountsLog → Option (List Note)
 told_none log = None
 
 -- a search that keeps no audit was refused for want of memory
-pub counts-stops : {N : Type 0} (t : SearchTree N) (asked : Asked) (table : Skeleton) (workers : ℕ) (fault : SearchFault) → IsCrewFault t 0 table workers ((log : CountsLog) × IsSome (told_none log)) fault → StopsSearch t asked fault
-counts-stops t asked table workers Memory refused = tt
-counts-stops t asked table workers (AuditFull worker entries numbers) refused = let never = refused.0.1 in absurd (cc)
-counts-stops t asked table workers (TooManyTasks number) refused = refused
+pub counts-stops : {N : Type 0} (t : SearchTree N) (asked : Asked) (fault : SearchFault) → IsSearchFault t asked ((log : CountsLog) × IsSome (told_none log)) fault → StopsSearch t asked fault
+counts-stops t asked Memory refused = tt
+counts-stops t asked (AuditFull worker entries numbers) refused = let never = refused.0.1 in absurd (cc)
+counts-stops t asked (TooManyTasks number) refused = refused

@@ -18,12 +18,12 @@ use Rattle.yew_words.specs.declared.plan.Skeleton.TheVariants as skeletons
 use Rattle.yew_words.specs.Plans.{Planned, PlanOf}
 use Rattle.yew_app.specs.Jobs.{of_job}
 use Rattle.yew_app.specs.MadeTexts.{IsMadeText}
-use Rattle.yew_app.specs.Meanings.{Meaning, known_files, IsOneWay, searched, AnswersFiles, MeetsFiles, IsFineFiles, FillsFiles, StopsFiles}
-use Rattle.yew_app.specs.Refusals.{Reason, BadUsage, CannotRead, NotInGrammar, TooLong, TooLarge, FullAudit, TaskPastLimit, CannotWrite, NoMemory, IsFullOrMemory}
-use Rattle.yew_app.specs.Asks.{table_of, IsSequential}
-use Rattle.yew_app.specs.Texts.{HasFullAudit, HasRoom}
+use Rattle.yew_app.specs.Meanings.{Meaning, known_files, IsOneWay, searched, AnswersFiles, MeetsFiles, IsFineFiles, FillsFiles, PassesFiles, StopsFiles}
+use Rattle.yew_app.specs.Refusals.{Reason, BadUsage, CannotRead, NotInGrammar, TooLong, TooLarge, FullAudit, TaskPastLimit, CannotWrite, NoMemory, IsFullOrMemory, IsPastOrFull}
+use Rattle.yew_app.specs.Asks.{table_of, IsSequential, IsOrdered}
+use Rattle.yew_app.specs.Texts.{HasFullAudit, HasRoom, HasTooManyItems}
 use Rattle.yew_app.specs.declared.asked.Asked.{Asked}
-use Rattle.yew_app.specs.Runs.{asked_of, IsPlanOf, AnswersJob, RefusesJob, MeetsJob, IsFineJob, StopsJob, RefusesFiles, FillsAudit, IsFine, IsCause}
+use Rattle.yew_app.specs.Runs.{asked_of, IsPlanOf, AnswersJob, RefusesJob, MeetsJob, IsFineJob, PassesJob, StopsJob, RefusesFiles, FillsAudit, HasTooManyTasks, IsFine, IsCause}
 use Rattle.yew_app.proofs.Alone.{one-worker}
 
 -- a log that was full is that of a sequential log past the limits
@@ -58,6 +58,14 @@ no-room t (skeletons.Budget budget) asked worker entries numbers same room full 
 no-room t (skeletons.Steal chunk) asked worker entries numbers same room full = room full.large
 no-room t (skeletons.Ordered depth) asked worker entries numbers same room full = room full.large
 
+-- one worker in preorder claims no tasks in order
+sequential-unordered : {R : Type 0} (skeleton : Skeleton) → IsSequential skeleton → IsOrdered skeleton → R
+sequential-unordered skeletons.Sequential is ordered = absurd ordered
+sequential-unordered (skeletons.Depth depth) is ordered = absurd ordered
+sequential-unordered (skeletons.Budget budget) is ordered = absurd ordered
+sequential-unordered (skeletons.Steal all) is ordered = absurd ordered
+sequential-unordered (skeletons.Ordered depth) is ordered = absurd (cc)
+
 -- the shelf did not fail
 abbrev pub NoFault : Reason → Type 0
 NoFault reason = (name : Word) → reason ≡ CannotRead name → ⊥
@@ -67,13 +75,20 @@ module _ {X N : Type 0} (m : Meaning X N) (one : IsOneWay m) (asked : Asked) (to
   same-meets : (a b : X) → m.Reads told a → m.Reads told b → MeetsLimits (seq_log (searched m a) 0) → MeetsLimits (seq_log (searched m b) 0)
   same-meets a b p q = subst (λ (x : X). MeetsLimits (seq_log (searched m x) 0)) (one.one_instance told a b p q)
 
+  same-passes : (a b : X) → m.Reads told a → m.Reads told b → HasTooManyItems (searched m a) asked.skeleton → HasTooManyItems (searched m b) asked.skeleton
+  same-passes a b p q = subst (λ (x : X). HasTooManyItems (searched m x) asked.skeleton) (one.one_instance told a b p q)
+
   -- files that are refused give no text
   answered-refused : (text : List ℕ) (reason : Reason) → AnswersFiles m asked told text → m.Refuses told reason → ⊥
   answered-refused text reason answers refused = one.not_both told answers.0 reason answers.1 refused
 
   -- and no search whose log is past the limits
   answered-meets : (text : List ℕ) → IsSequential asked.skeleton → AnswersFiles m asked told text → IsTrue asked.audit → MeetsFiles m told → ⊥
-  answered-meets text preorder answers audit meets = (answers.2.found.in_preorder preorder).fits audit (same-meets meets.0 answers.0 meets.1 answers.1 meets.2)
+  answered-meets text preorder answers audit meets = (answers.2.found.first_text (inl preorder)).fits audit (same-meets meets.0 answers.0 meets.1 answers.1 meets.2)
+
+  -- and no search with too many items
+  answered-passes : (text : List ℕ) → AnswersFiles m asked told text → PassesFiles m asked told → ⊥
+  answered-passes text answers passes = answers.2.found.few (same-passes passes.0 answers.0 passes.1 answers.1 passes.2)
 
   -- files that are refused stop a run for their reason
   stopped-refused : (is reason : Reason) → NoFault is → StopsFiles m asked (Some told) is → m.Refuses told reason → (is ≡ reason) ⊎ (is ≡ NoMemory)
@@ -85,19 +100,33 @@ module _ {X N : Type 0} (m : Meaning X N) (one : IsOneWay m) (asked : Asked) (to
   stopped-refused NoMemory reason none stops refused = inr refl
   stopped-refused (BadUsage place kind) reason none stops refused = absurd stops
   stopped-refused CannotWrite reason none stops refused = absurd stops
-  stopped-refused (TaskPastLimit number) reason none stops refused = absurd stops
+  stopped-refused (TaskPastLimit number) reason none stops refused = absurd (one.not_both told stops.2.0 reason stops.2.1 refused)
 
   -- a search whose log is past the limits stops a run where its audit is full
-  stopped-meets : (is : Reason) → NoFault is → asked.workers ≡ 1 → StopsFiles m asked (Some told) is → MeetsFiles m told → IsFullOrMemory is
-  stopped-meets (CannotRead name) none single stops meets = absurd (none name refl)
-  stopped-meets (NotInGrammar name at kind) none single stops meets = one.not_both told meets.0 (NotInGrammar name at kind) meets.1 stops.1
-  stopped-meets (TooLong name) none single stops meets = one.not_both told meets.0 (TooLong name) meets.1 stops.1
-  stopped-meets (TooLarge name number limit) none single stops meets = one.not_both told meets.0 (TooLarge name number limit) meets.1 stops.1
-  stopped-meets (FullAudit worker entries numbers) none single stops meets = let least = stops.1 in let most = stops.2 in omega (arith, least, most, single)
-  stopped-meets NoMemory none single stops meets = tt
-  stopped-meets (BadUsage place kind) none single stops meets = absurd stops
-  stopped-meets CannotWrite none single stops meets = absurd stops
-  stopped-meets (TaskPastLimit number) none single stops meets = absurd stops
+  stopped-meets : (is : Reason) → NoFault is → IsSequential asked.skeleton → asked.workers ≡ 1 → StopsFiles m asked (Some told) is → MeetsFiles m told → IsFullOrMemory is
+  stopped-meets (CannotRead name) none preorder single stops meets = absurd (none name refl)
+  stopped-meets (NotInGrammar name at kind) none preorder single stops meets = one.not_both told meets.0 (NotInGrammar name at kind) meets.1 stops.1
+  stopped-meets (TooLong name) none preorder single stops meets = one.not_both told meets.0 (TooLong name) meets.1 stops.1
+  stopped-meets (TooLarge name number limit) none preorder single stops meets = one.not_both told meets.0 (TooLarge name number limit) meets.1 stops.1
+  stopped-meets (FullAudit worker entries numbers) none preorder single stops meets = let least = stops.1 in let most = stops.2 in omega (arith, least, most, single)
+  stopped-meets NoMemory none preorder single stops meets = tt
+  stopped-meets (BadUsage place kind) none preorder single stops meets = absurd stops
+  stopped-meets CannotWrite none preorder single stops meets = absurd stops
+  stopped-meets (TaskPastLimit number) none preorder single stops meets = sequential-unordered asked.skeleton preorder stops.1
+
+  -- a search with too many items stops a run for them, or where the audit of the first worker is full
+  stopped-passes : (is : Reason) → NoFault is → StopsFiles m asked (Some told) is → PassesFiles m asked told → IsPastOrFull (IsTrue asked.audit) is
+  stopped-passes (CannotRead name) none stops passes = absurd (none name refl)
+  stopped-passes (NotInGrammar name at kind) none stops passes = one.not_both told passes.0 (NotInGrammar name at kind) passes.1 stops.1
+  stopped-passes (TooLong name) none stops passes = one.not_both told passes.0 (TooLong name) passes.1 stops.1
+  stopped-passes (TooLarge name number limit) none stops passes = one.not_both told passes.0 (TooLarge name number limit) passes.1 stops.1
+  stopped-passes (FullAudit worker entries numbers) none stops passes =
+      let filled : FillsFiles m asked worker entries numbers told = stops.3 in
+      (stops.0, filled.2.first_worker (same-passes passes.0 filled.0 passes.1 filled.1 passes.2))
+  stopped-passes NoMemory none stops passes = tt
+  stopped-passes (BadUsage place kind) none stops passes = absurd stops
+  stopped-passes CannotWrite none stops passes = absurd stops
+  stopped-passes (TaskPastLimit number) none stops passes = stops.0
 
   -- and where nothing is wrong, want of memory alone stops it
   stopped-fine : (is : Reason) → NoFault is → StopsFiles m asked (Some told) is → IsFineFiles m asked told → is ≡ NoMemory
@@ -113,7 +142,9 @@ module _ {X N : Type 0} (m : Meaning X N) (one : IsOneWay m) (asked : Asked) (to
   stopped-fine NoMemory none stops fine = refl
   stopped-fine (BadUsage place kind) none stops fine = absurd stops
   stopped-fine CannotWrite none stops fine = absurd stops
-  stopped-fine (TaskPastLimit number) none stops fine = absurd stops
+  stopped-fine (TaskPastLimit number) none stops fine =
+      let passes : PassesFiles m asked told = stops.2 in
+      absurd (fine.3 (same-passes passes.0 fine.0 passes.1 fine.1 passes.2))
 
 -- three facts of a job together
 pub meet-job : (job : Job) (names : List Word) (plan : Planned) {R : Type 0} (A B C : Made → Type 0) (K L M : (X N : Type 0) → Meaning X N → Type 0)
@@ -168,6 +199,11 @@ module _ (does : Skeleton → Type 0) (words : List Word) (plan : Planned) (is_p
     fills-job fills =
         subst (λ (p : Planned). IsTrue p.audit × IsSequential p.skeleton × IsSomeAnd (known_files p.files files) (MeetsJob p.job p.files p)) (sym (one fills.plan fills.is_plan.is_plan)) (fills.asked, fills.sequential, fills.meets)
 
+    passes-job : (many : HasTooManyTasks does words files) → (many.plan ≡ plan) × IsSomeAnd known (PassesJob plan.job plan.files plan)
+    passes-job many =
+        let same = sym (one many.plan many.is_plan.is_plan) in
+        (same, subst (λ (p : Planned). IsSomeAnd (known_files p.files files) (PassesJob p.job p.files p)) same many.passes)
+
     fine-job : IsFine does words files → IsSomeAnd known (IsFineJob plan.job plan.files plan)
     fine-job fine =
         subst (λ (p : Planned). IsSomeAnd (known_files p.files files) (IsFineJob p.job p.files p)) (sym (one fine.plan fine.is_plan.is_plan)) fine.fine
@@ -192,6 +228,14 @@ module _ (does : Skeleton → Type 0) (words : List Word) (plan : Planned) (is_p
           at (Some told) a audit preorder r = meet-job plan.job plan.files plan (λ kind. Unit {0}) Made_text (λ kind. ⊥) (λ X N m. IsOneWay m) (λ X N m. AnswersFiles m (asked_of plan) told text) (λ X N m. MeetsFiles m told)
               (λ kind w b c. c) (λ X N m w b c. answered-meets m w (asked_of plan) told text preorder b audit c) ways a r
 
+      pub answers-not_past : HasTooManyTasks does words files → ⊥
+      answers-not_past many = at known answers (passes-job many).1
+        where
+          at : (k : Option (List File)) → IfSome k (λ told. AnswersJob plan.job plan.files plan told text) → IsSomeAnd k (PassesJob plan.job plan.files plan) → ⊥
+          at None a r = r
+          at (Some told) a r = meet-job plan.job plan.files plan (λ kind. Unit {0}) Made_text (λ kind. ⊥) (λ X N m. IsOneWay m) (λ X N m. AnswersFiles m (asked_of plan) told text) (λ X N m. PassesFiles m (asked_of plan) told)
+              (λ kind w b c. c) (λ X N m w b c. answered-passes m w (asked_of plan) told text b c) ways a r
+
     module _ (is : Reason) (none : NoFault is) (stops : StopsJob plan.job plan.files plan known is) where
       pub stops-refused : (reason : Reason) → RefusesFiles does words files reason → (is ≡ reason) ⊎ (is ≡ NoMemory)
       stops-refused reason refused = at known stops (refused-job reason refused)
@@ -207,7 +251,16 @@ module _ (does : Skeleton → Type 0) (words : List Word) (plan : Planned) (is_p
           at : (k : Option (List File)) → StopsJob plan.job plan.files plan k is → IsSomeAnd k (MeetsJob plan.job plan.files plan) → IsFullOrMemory is
           at None s r = absurd r
           at (Some told) s r = meet-job plan.job plan.files plan (λ kind. Unit {0}) (λ kind. is ≡ NoMemory) (λ kind. ⊥) (λ X N m. IsOneWay m) (λ X N m. StopsFiles m (asked_of plan) (Some told) is) (λ X N m. MeetsFiles m told)
-              (λ kind w b c. absurd c) (λ X N m w b c. stopped-meets m w (asked_of plan) told is none (one-worker words plan is_plan.is_plan (fills-job fills).1) b c) ways s r
+              (λ kind w b c. absurd c) (λ X N m w b c. stopped-meets m w (asked_of plan) told is none (fills-job fills).1 (one-worker words plan is_plan.is_plan (fills-job fills).1) b c) ways s r
+
+      pub stops-past : (many : HasTooManyTasks does words files) → IsPastOrFull (IsTrue many.plan.audit) is
+      stops-past many = let p = passes-job many in subst (λ (q : Planned). IsPastOrFull (IsTrue q.audit) is) (sym p.0) (at known stops p.1)
+        where
+          at : (k : Option (List File)) → StopsJob plan.job plan.files plan k is → IsSomeAnd k (PassesJob plan.job plan.files plan) → IsPastOrFull (IsTrue plan.audit) is
+          at None s r = absurd r
+          at (Some told) s r = meet-job plan.job plan.files plan (λ kind. Unit {0}) (λ kind. is ≡ NoMemory) (λ kind. ⊥)
+              (λ X N m. IsOneWay m) (λ X N m. StopsFiles m (asked_of plan) (Some told) is) (λ X N m. PassesFiles m (asked_of plan) told)
+              (λ kind w b c. absurd c) (λ X N m w b c. stopped-passes m w (asked_of plan) told is none b c) ways s r
 
       pub stops-fine : IsFine does words files → is ≡ NoMemory
       stops-fine fine = at known stops (fine-job fine)

@@ -7,6 +7,7 @@ pub mod Meanings
 pub mod Outcomes
 pub mod Reasons
 pub mod Refusals
+pub mod Replicas
 pub mod Runs
 pub mod Searches
 pub mod Semigroups
@@ -15,3 +16,4 @@ pub mod Solutions
 pub mod Stops
 pub mod Subgraphs
 pub mod Texts
+pub mod Ways

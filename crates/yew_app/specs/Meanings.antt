@@ -1,5 +1,5 @@
 -- What a job means whose answer a search finds: the files that it reads, the tree that it searches, and its right answers.
-use Rattle.std.specs.Prelude.{◌≡◌, ℕ, ◌≤◌, List, [], ◌∷◌, Option, Some, IfSome, Contains, IsTrue}
+use Rattle.std.specs.Prelude.{◌≡◌, ℕ, ◌≤◌, ◌^◌, List, [], ◌∷◌, Option, Some, IfSome, Contains, IsTrue}
 use Rattle.yew_io.specs.Shelf.{File}
 use Rattle.yew_kinds.specs.declared.kind.Kind.{Kind}
 use Rattle.yew_laws.specs.SearchTree.{SearchTree}
@@ -7,9 +7,9 @@ use Rattle.yew_log.specs.AuditFull.{MeetsLimits}
 use Rattle.yew_log.specs.SeqLog.{seq_log}
 use Rattle.yew_walk.specs.PlainSearch.{searched_tree}
 use Rattle.yew_words.specs.Word.{Word}
-use Rattle.yew_app.specs.Refusals.{Reason, CannotRead, NotInGrammar, TooLong, TooLarge, FullAudit, NoMemory}
-use Rattle.yew_app.specs.Asks.{permitted_gap}
-use Rattle.yew_app.specs.Texts.{IsSearchText, HasFullAudit, HasRoom}
+use Rattle.yew_app.specs.Refusals.{Reason, CannotRead, NotInGrammar, TooLong, TooLarge, FullAudit, TaskPastLimit, NoMemory}
+use Rattle.yew_app.specs.Asks.{permitted_gap, IsOrdered}
+use Rattle.yew_app.specs.Texts.{IsSearchText, HasFullAudit, HasRoom, HasTooManyItems}
 use Rattle.yew_app.specs.declared.asked.Asked.{Asked}
 
 -- What a job means, of instances X whose trees have nodes N: the names of its files in the order in which they are read;
@@ -55,9 +55,14 @@ module _ {X N : Type 0} (m : Meaning X N) where
   abbrev pub MeetsFiles : List File → Type 0
   MeetsFiles told = (instance : X) × m.Reads told instance × MeetsLimits (seq_log (searched instance) permitted_gap)
 
-  -- the files are read, and an audit that is asked for has room for the search
+  -- the files are read, an audit that is asked for has room for the search, and there are not too many items
   abbrev pub IsFineFiles : Asked → List File → Type 0
-  IsFineFiles asked told = (instance : X) × m.Reads told instance × (IsTrue asked.audit → HasRoom (searched instance) asked.skeleton)
+  IsFineFiles asked told =
+      (instance : X) × m.Reads told instance × (IsTrue asked.audit → HasRoom (searched instance) asked.skeleton) × ¬ HasTooManyItems (searched instance) asked.skeleton
+
+  -- the files are read, and there are too many items
+  abbrev pub PassesFiles : Asked → List File → Type 0
+  PassesFiles asked told = (instance : X) × m.Reads told instance × HasTooManyItems (searched instance) asked.skeleton
 
   -- the files are read, and the audit of this worker is full
   abbrev pub FillsFiles : Asked → ℕ → ℕ → ℕ → List File → Type 0
@@ -73,8 +78,9 @@ module _ {X N : Type 0} (m : Meaning X N) where
   IsUnreadable known NoMemory = Unit {0}
   IsUnreadable known _ = ⊥
 
-  -- why no text is made: no instance is read, or the audit that is asked for is full
+  -- why no text is made: no instance is read, or the audit that is asked for is full, or tasks are claimed in order and there are too many items
   abbrev pub StopsFiles : Asked → Option (List File) → Reason → Type 0
   StopsFiles asked known (FullAudit worker entries numbers) =
       IsTrue asked.audit × (1 ≤ worker) × (worker ≤ asked.workers) × IfSome known (FillsFiles asked worker entries numbers)
+  StopsFiles asked known (TaskPastLimit number) = (number ≡ 2 ^ 20) × IsOrdered asked.skeleton × IfSome known (PassesFiles asked)
   StopsFiles asked known reason = IsUnreadable known reason

@@ -1,5 +1,5 @@
 -- What a run leaves outside: the texts that it wrote, and its status.
-use Rattle.std.specs.Prelude.{◌≡◌, ◌⊎◌, ℕ, List, Bool, true, Option, Some}
+use Rattle.std.specs.Prelude.{◌≡◌, ◌⊎◌, ℕ, ◌^◌, List, Bool, true, IsTrue, Option, Some}
 use Rattle.yew_words.specs.declared.plan.Skeleton.{Skeleton}
 use Rattle.yew_words.specs.Word.{Word}
 use Rattle.yew_io.specs.Faults.{Rose}
@@ -7,8 +7,8 @@ use Rattle.yew_io.specs.Shelf.{File}
 use Rattle.yew_io.specs.Sink.{Appends, AppendsPrefix}
 use Rattle.yew_io.specs.declared.shelf.Shelf as shelf_trait
 use Rattle.yew_io.specs.declared.sink.Sink as sink_trait
-use Rattle.yew_app.specs.Refusals.{Reason, CannotRead, FullAudit, CannotWrite, fault_line, status_of}
-use Rattle.yew_app.specs.Runs.{Answers, RefusesWords, RefusesFiles, FillsAudit, IsFine, IsCause}
+use Rattle.yew_app.specs.Refusals.{Reason, CannotRead, FullAudit, TaskPastLimit, CannotWrite, fault_line, status_of}
+use Rattle.yew_app.specs.Runs.{Answers, RefusesWords, RefusesFiles, FillsAudit, HasTooManyTasks, IsFine, IsCause}
 
 -- the world outside at one moment: the shelf of files, the sink of the answer, and the sink of faults
 pub record Outside : Type 0 where
@@ -91,3 +91,9 @@ module _ (does : Skeleton → Type 0) (words : List Word) (before after : Outsid
   abbrev pub SaysAudit : ℕ → Type 0
   SaysAudit status = ¬ Rose before.read_faults after.read_faults → FillsAudit does words before.files →
       ((entries : ℕ) × (numbers : ℕ) × Says before after status (FullAudit 1 entries numbers)) ⊎ (status ≡ 6)
+
+  -- where no fault rises at the shelf, the files are known and read, and there are too many items, it says that one would need the number 2^20, unless an audit that is asked for was full at the first worker before, or memory runs out
+  abbrev pub SaysTasks : ℕ → Type 0
+  SaysTasks status = ¬ Rose before.read_faults after.read_faults → (many : HasTooManyTasks does words before.files) →
+      Says before after status (TaskPastLimit (2 ^ 20))
+      ⊎ ((IsTrue many.plan.audit × (entries : ℕ) × (numbers : ℕ) × Says before after status (FullAudit 1 entries numbers)) ⊎ (status ≡ 6))

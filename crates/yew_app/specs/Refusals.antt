@@ -1,5 +1,5 @@
 -- Why a run does not answer: the statuses, and the lines that say so.
-use Rattle.std.specs.Prelude.{◌≡◌, ℕ, List, [], ◌∷◌, ◌++◌, decimal, codes}
+use Rattle.std.specs.Prelude.{◌≡◌, ℕ, ◌^◌, List, [], ◌∷◌, ◌++◌, decimal, codes}
 use Rattle.yew_words.specs.declared.plan.UsageKind.{UsageKind}
 use Rattle.yew_words.specs.declared.plan.UsageKind.TheVariants as usage
 use Rattle.yew_text.specs.declared.text.TextKind.{TextKind}
@@ -67,3 +67,10 @@ abbrev pub IsFullOrMemory : Reason → Type 0
 IsFullOrMemory (FullAudit worker entries numbers) = worker ≡ 1
 IsFullOrMemory NoMemory = Unit {0}
 IsFullOrMemory _ = ⊥
+
+-- a task would need the number 2^20, or the audit, where it is asked for, of the first worker is full, or memory ran out
+abbrev pub IsPastOrFull : Type 0 → Reason → Type 0
+IsPastOrFull asked_for (TaskPastLimit number) = number ≡ 2 ^ 20
+IsPastOrFull asked_for (FullAudit worker entries numbers) = asked_for × (worker ≡ 1)
+IsPastOrFull asked_for NoMemory = Unit {0}
+IsPastOrFull asked_for _ = ⊥

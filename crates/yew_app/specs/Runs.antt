@@ -10,7 +10,7 @@ use Rattle.yew_io.specs.Shelf.{File}
 use Rattle.yew_app.specs.Asks.{IsSequential}
 use Rattle.yew_app.specs.Jobs.{of_job}
 use Rattle.yew_app.specs.MadeTexts.{IsMadeText}
-use Rattle.yew_app.specs.Meanings.{known_files, AnswersFiles, MeetsFiles, IsFineFiles, StopsFiles}
+use Rattle.yew_app.specs.Meanings.{known_files, AnswersFiles, MeetsFiles, IsFineFiles, PassesFiles, StopsFiles}
 use Rattle.yew_app.specs.Refusals.{Reason, BadUsage, CannotWrite, NoMemory}
 use Rattle.yew_app.specs.declared.asked.Asked.{Asked}
 
@@ -43,13 +43,17 @@ module _ (job : Job) (names : List Word) (plan : Planned) where
   abbrev pub RefusesJob : List File → Reason → Type 0
   RefusesJob told reason = of_job job names plan (λ kind. ⊥) (λ X N m. m.Refuses told reason)
 
-  -- nothing is wrong with the files, and an audit that is asked for has room for the search
+  -- nothing is wrong with the files, an audit that is asked for has room for the search, and there are not too many items
   abbrev pub IsFineJob : List File → Type 0
   IsFineJob told = of_job job names plan (λ kind. Unit {0}) (λ X N m. IsFineFiles m (asked_of plan) told)
 
   -- the files are read, and the sequential log is past what an audit has room for
   abbrev pub MeetsJob : List File → Type 0
   MeetsJob told = of_job job names plan (λ kind. ⊥) (λ X N m. MeetsFiles m told)
+
+  -- the files are read, and there are too many items
+  abbrev pub PassesJob : List File → Type 0
+  PassesJob told = of_job job names plan (λ kind. ⊥) (λ X N m. PassesFiles m (asked_of plan) told)
 
   -- why no text is made over the files that are known: what is made is refused for want of memory alone
   abbrev pub StopsJob : Option (List File) → Reason → Type 0
@@ -78,6 +82,12 @@ module _ (does : Skeleton → Type 0) (words : List Word) (files : Option (List 
     pub sequential : IsSequential plan.skeleton
     pub asked : IsTrue plan.audit
     pub meets : IsSomeAnd (known_files plan.files files) (MeetsJob plan.job plan.files plan)
+
+  -- The words have a plan for tasks that are claimed in order, its files are known, and there are too many items.
+  pub record HasTooManyTasks : Type 0 where
+    pub plan : Planned
+    pub is_plan : IsPlanOf does words plan
+    pub passes : IsSomeAnd (known_files plan.files files) (PassesJob plan.job plan.files plan)
 
   -- The words have a plan whose files are known, and nothing is wrong with them and its search.
   pub record IsFine : Type 0 where

@@ -11,10 +11,15 @@ ghost use Rattle.yew_log.specs.Totals.{totals_of};
 ghost use Rattle.yew_log.specs.WholeSearch.{AreLogs, joined};
 ghost use Rattle.yew_words.specs.Plans.{Planned};
 ghost use Rattle.yew_words.specs.Ranges.{file_count_of};
+ghost use Rattle.yew_words.specs.Word.{Word};
+ghost use Rattle.yew_app.specs.Asks.{IsSequential, IsAnySkeleton};
 ghost use Rattle.yew_app.specs.Jobs.{of_job};
 ghost use Rattle.yew_app.specs.Meanings.{IsOneWay};
+ghost use Rattle.yew_app.specs.Outcomes.{Outside};
+ghost use Rattle.yew_app.specs.Replicas.{WriteTheSame};
 
 use yew_laws::Problem;
+use yew_words::one_answer;
 
 /// The files of each job that searches are read to one instance or refused for one reason.
 pub(crate) fn files_have_one_way()
@@ -38,6 +43,20 @@ pub fn report_numbers<P: Problem>(problem: &P)
         ((totals_of (joined logs)).cut ≡ 0) × ((totals_of (joined logs)).visited ≡ length (tree_paths (search_tree P.Problem problem.now))) }
 {
     let _ = problem;
+}
+
+/// Two runs, of `run` or of `run_plain`, whose plans are one where `sequential` stands in the place of their skeletons, and of
+/// which each asks for what one worker writes in preorder: the skeleton is `sequential`, or it is `ordered` and neither report
+/// nor audit is asked for. Over the same files they write the same bytes: for every depth, every number of workers and every
+/// schedule.
+pub fn replicas_write_the_same()
+    ensures runs { (words others : List Word) (before after other_before other_after : Outside) →
+        WriteTheSame IsAnySkeleton IsAnySkeleton words others before after other_before other_after }
+    ensures plain { (words others : List Word) (before after other_before other_after : Outside) →
+        WriteTheSame IsAnySkeleton IsSequential words others before after other_before other_after }
+{
+    files_have_one_way();
+    one_answer();
 }
 
 /// The sequential log of a tree of at most 2^16 nodes, whose paths have at most 2^20 numbers together, is within the limits

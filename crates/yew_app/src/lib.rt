@@ -3,7 +3,7 @@
 //! [`run_plain`] reads the words, reads and judges the files, searches with one worker or makes a workload, and writes the
 //! whole text or the line of a refusal. Its contract is the program's: what is written with status 0 is a right answer to
 //! the problem, with the report and the audit of its one log where they are asked for, and every other status has its
-//! cause.
+//! cause. [`run`] does the same with as many workers as the words say, by every skeleton.
 #![tactic(auto)]
 
 mod asked;

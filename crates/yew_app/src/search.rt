@@ -5,7 +5,7 @@ ghost use Rattle.yew_io.specs.Faults.{Rose};
 ghost use Rattle.yew_laws.specs.Fold.{Fold};
 ghost use Rattle.yew_laws.specs.SearchTree.{search_tree};
 ghost use Rattle.yew_walk.specs.LogViews.{log_view};
-ghost use Rattle.yew_app.specs.Asks.{IsSequential, IsUnordered, IsAskable};
+ghost use Rattle.yew_app.specs.Asks.{IsSequential, IsAskable};
 ghost use Rattle.yew_app.specs.Meanings.{known_files, searched, IsJobText, AnswersFiles, StopsFiles};
 ghost use Rattle.yew_app.specs.Reasons.{reason_of};
 ghost use Rattle.yew_app.specs.Refusals.{CannotRead};
@@ -72,7 +72,6 @@ pub(crate) fn solve_together<
     asked: Asked,
 ) -> Result<Vec<u8>, Refusal<'a>>
     requires askable { IsAskable asked }
-    requires done { IsUnordered asked.skeleton }
     ensures answers { let m = J.meaning job.now in
         IfOk result (λ text. IfSome (known_files m.names (S.files shelf.old)) (λ told. AnswersFiles m asked told text.items)) }
     ensures cause { let m = J.meaning job.now in
@@ -143,7 +142,8 @@ fn text_alone<J: SearchJob>(
 
 /// The text of an instance that is searched by a crew, with what is asked for beside the answer.
 ///
-/// There is none where memory runs out, or where the audit that is asked for has no room for its next entry.
+/// There is none where memory runs out, where the audit that is asked for has no room for its next entry, or where tasks are
+/// claimed in order and there are too many of them.
 fn text_together<J: SearchJob, G: Gate, H: Threads + Wait + Sync>(
     crew: &Crew<H, G>,
     alloc: Global,
@@ -154,7 +154,6 @@ fn text_together<J: SearchJob, G: Gate, H: Threads + Wait + Sync>(
     requires root { J.Instance.sound problem.now (J.Instance.root problem.now) }
     requires fit { J.fit job.now problem.now }
     requires askable { IsAskable asked }
-    requires done { IsUnordered asked.skeleton }
     ensures text { IfOk result (λ text. IsJobText (J.meaning job.now) asked problem.now text.items) }
     ensures fault { IfErr result (StopsSearch (searched (J.meaning job.now) problem.now) asked) }
 {

@@ -7,9 +7,8 @@ ghost use Rattle.yew_laws.specs.SearchTree.{search_tree};
 ghost use Rattle.yew_walk.specs.LogViews.{log_view};
 ghost use Rattle.yew_walk.specs.PlainSearch.{searched_tree};
 ghost use Rattle.yew_words.specs.declared.plan.Skeleton.{Skeleton as SkeletonValue};
-ghost use Rattle.yew_crew.specs.CrewSearch.{IsCrewFault};
-ghost use Rattle.yew_app.specs.Asks.{permitted_gap, table_of, IsSequential, IsAskable};
-ghost use Rattle.yew_app.specs.Searches.{IsFound};
+ghost use Rattle.yew_app.specs.Asks.{IsSequential, IsAskable};
+ghost use Rattle.yew_app.specs.Searches.{IsFound, IsSearchFault};
 
 use crate::asked::Asked;
 use std::alloc::Global;
@@ -64,8 +63,7 @@ pub(crate) fn search_alone<P: Problem, T: Tally<P::Node>, R: Recorder>(
     requires done { IsSequential asked.skeleton }
     ensures found { IfOk result (λ found. let t = search_tree P.Problem problem.now in
         IsFound t (Fold t (T.join tally.now) (T.none tally.now) (T.of tally.now)) kind asked (λ log. log_view (R.told log) (R.totals log) (R.number log)) found) }
-    ensures fault { IfErr result (IsCrewFault (searched_tree (search_tree P.Problem problem.now) kind) permitted_gap (table_of asked.skeleton) asked.workers
-        ((log : R) × IsSome (R.told log))) }
+    ensures fault { IfErr result (IsSearchFault (searched_tree (search_tree P.Problem problem.now) kind) asked ((log : R) × IsSome (R.told log))) }
 {
     let _ = asked;
     search_plain(alloc, problem, kind, tally)

@@ -5,7 +5,7 @@ ghost use Rattle.yew_io.specs.Faults.{Rose};
 ghost use Rattle.yew_words.specs.Plans.{planned};
 ghost use Rattle.yew_words.specs.Ranges.{IsWithin};
 ghost use Rattle.yew_words.specs.Word.{texts};
-ghost use Rattle.yew_app.specs.Asks.{IsSequential, IsUnordered};
+ghost use Rattle.yew_app.specs.Asks.{IsSequential};
 ghost use Rattle.yew_app.specs.Meanings.{known_files};
 ghost use Rattle.yew_app.specs.Reasons.{reason_of};
 ghost use Rattle.yew_app.specs.Refusals.{CannotRead};
@@ -96,7 +96,6 @@ pub(crate) fn solve_by_crew<'a, S: Shelf<'a>, G: Gate, H: Threads + Wait + Sync>
     plan: &Plan<'a>,
 ) -> Result<Vec<u8>, Refusal<'a>>
     requires within { IsWithin (planned plan.now) }
-    requires done { IsUnordered plan.now.skeleton }
     ensures answers { IfOk result (λ text. let names = texts plan.now.files.now in
         IfSome (known_files names (S.files shelf.old)) (λ told. AnswersJob plan.now.job names (planned plan.now) told text.items)) }
     ensures cause { IfErr result (λ refusal. let names = texts plan.now.files.now in

@@ -4,8 +4,7 @@ use Rattle.yew_kinds.specs.declared.kind.Kind.{Kind}
 use Rattle.yew_laws.specs.SearchTree.{SearchTree, search_tree}
 use Rattle.yew_log.specs.Logs.{FullLog}
 use Rattle.yew_walk.specs.PlainSearch.{searched_tree}
-use Rattle.yew_app.specs.Asks.{table_of}
-use Rattle.yew_crew.specs.CrewSearch.{IsCrewFault}
+use Rattle.yew_app.specs.Searches.{IsSearchFault}
 use Rattle.yew_app.specs.Texts.{StopsSearch}
 use Rattle.yew_app.proofs.SearchedTrees.{searched-stops}
 use Rattle.yew_app.proofs.search.text_alone.Goals as goal
@@ -20,4 +19,4 @@ returns-then-asked-clause-fault g c =
     let Tells : Type 0 = (log : FullLog) × IsSome (Some log.notes) in
     subst (λ (u : SearchTree _). StopsSearch (searched_tree u m.kind) asked fault) (sym (g.met.J.SearchJob.tree_is c.args.job.now x))
     (searched-stops t (g.J.Instance.Problem.ranked x) (g.J.Instance.Problem.bounded x) c.requires.root m.kind asked Tells fault c.if-asked.true
-    (subst (λ (k : Kind). IsCrewFault (searched_tree t k) 0 (table_of asked.skeleton) asked.workers Tells fault) c.kind.ensures.kind c.in-Err.ensures.fault))
+    (subst (λ (k : Kind). IsSearchFault (searched_tree t k) asked Tells fault) c.kind.ensures.kind c.in-Err.ensures.fault))

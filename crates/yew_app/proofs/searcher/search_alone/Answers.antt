@@ -7,10 +7,11 @@ use Rattle.yew_walk.specs.Kinds.{IsAnswer}
 use Rattle.yew_walk.specs.LogViews.{LogView, log_view}
 use Rattle.yew_walk.specs.PlainSearch.{searched_tree, HasPlainLog, IsPlainFault}
 use Rattle.yew_app.specs.Asks.{table_of}
-use Rattle.yew_crew.specs.CrewSearch.{solution_of, IsCrewFault}
-use Rattle.yew_app.specs.Searches.{IsFound}
+use Rattle.yew_crew.specs.CrewSearch.{solution_of}
+use Rattle.yew_app.specs.Searches.{IsFound, IsSearchFault}
 use Rattle.yew_app.proofs.FoundNodes.{both-ok}
-use Rattle.yew_app.proofs.OneWorkers.{crew-answer, solution-first, crew-logs, crew-fault}
+use Rattle.yew_app.proofs.OneWorkers.{crew-answer, solution-first, crew-logs, crew-fault, crew-search_fault}
+use Rattle.yew_app.proofs.OrderedSearches.{sequential-few}
 use Rattle.yew_app.proofs.SearchedTrees.{searched-are_logs}
 use Rattle.yew_app.proofs.searcher.search_alone.Goals as goal
 
@@ -31,7 +32,9 @@ returns-clause-found g c =
       logs =
           crew-logs u view (table_of asked.skeleton) asked.workers (solution_of t found.answer) found.logs.items (sym (ap table_of done)) (sym (c.requires.askable.alone done)) (sym first)
           (searched-are_logs t (g.P.Problem.ranked c.args.problem.now) (g.P.Problem.bounded c.args.problem.now) c.requires.root kind) has;
-      in_preorder = λ sequential. record { first = first; log = has };
+      first = λ finds. first;
+      in_preorder = λ sequential. has;
+      few = sequential-few u asked.skeleton done;
     })
     c.search_plain.ensures.answer c.search_plain.ensures.logs
 
@@ -41,5 +44,8 @@ returns-clause-fault g c =
     let asked = c.args.asked in
     let done = c.requires.done in
     let Tells : Type 0 = (log : g.row.R.Denot) × IsSome (g.R.Recorder.told log) in
-    IfErr-weaker c.search_plain.result (IsPlainFault u Tells) (IsCrewFault u 0 (table_of asked.skeleton) asked.workers Tells)
-    (λ fault refused. crew-fault u (table_of asked.skeleton) asked.workers Tells fault (sym (ap table_of done)) (sym (c.requires.askable.alone done)) refused) c.search_plain.ensures.fault
+    IfErr-weaker c.search_plain.result (IsPlainFault u Tells) (IsSearchFault u asked Tells)
+    (λ fault refused.
+    crew-search_fault u asked Tells fault (sequential-few u asked.skeleton done)
+    (crew-fault u (table_of asked.skeleton) asked.workers Tells fault (sym (ap table_of done)) (sym (c.requires.askable.alone done)) refused))
+    c.search_plain.ensures.fault

@@ -1,11 +1,12 @@
+use Rattle.std.specs.Prelude.{IsTrue}
 use Rattle.std.proofs.Common.{◌⊎◌, refl, subst, ap, ◌∙◌, inl, inr, ⊎_elim}
 use Rattle.yew_words.specs.Word.{texts}
-use Rattle.yew_app.specs.Asks.{IsUnordered}
+use Rattle.yew_app.specs.Asks.{IsAnySkeleton}
 use Rattle.yew_app.specs.Reasons.{reason_of}
 use Rattle.yew_app.specs.Refusals.{CannotWrite, status_of}
 use Rattle.yew_app.specs.Outcomes.{outside, Says}
 use Rattle.yew_app.proofs.Causes.{has-cause}
-use Rattle.yew_app.proofs.FullAudits.{full-says}
+use Rattle.yew_app.proofs.FullAudits.{full-says, past-says}
 use Rattle.yew_app.proofs.top.run.Goals as goal
 
 pub returns-in-Ok-write_whole-clause-files_refused : goal.returns-in-Ok-write_whole-clause-files_refused
@@ -46,7 +47,7 @@ returns-clause-refused g c = λ not_zero. (
   record {
     says = record { status_is = c.refuse-in-Err.ensures.status; prefix = c.refuse-in-Err.ensures.prefix; whole = c.refuse-in-Err.ensures.whole };
     cause =
-        has-cause IsUnordered (texts c.args.words.now)
+        has-cause IsAnySkeleton (texts c.args.words.now)
         (outside g.S.Shelf g.K.Sink g.E.Sink c.args.shelf.now c.args.out.now c.args.err.now)
         (outside g.S.Shelf g.K.Sink g.E.Sink c.crew_text.new.shelf c.args.out.now c.refuse-in-Err.new.sink)
         (reason_of c.in-Err.refusal) c.in-Err.ensures.cause c.in-Err.ensures.read_fault refl;
@@ -60,3 +61,17 @@ returns-clause-audit_full g c = λ no_fault.
     let after = outside g.S.Shelf g.K.Sink g.E.Sink c.crew_text.new.shelf c.args.out.now c.refuse-in-Err.new.sink in
     let says : Says before after c.refuse-in-Err.result reason_is = record { status_is = c.refuse-in-Err.ensures.status; prefix = c.refuse-in-Err.ensures.prefix; whole = c.refuse-in-Err.ensures.whole } in
     λ fills. full-says before after c.refuse-in-Err.result reason_is (c.in-Err.ensures.audit_full no_fault fills) says
+
+pub returns-in-Ok-write_whole-clause-tasks : goal.returns-in-Ok-write_whole-clause-tasks
+returns-in-Ok-write_whole-clause-tasks g c = λ no_fault many. absurd (c.in-Ok.ensures.tasks no_fault many)
+
+pub returns-in-Ok-clause-tasks : goal.returns-in-Ok-clause-tasks
+returns-in-Ok-clause-tasks g c = λ no_fault many. absurd (c.in-Ok.ensures.tasks no_fault many)
+
+pub returns-clause-tasks : goal.returns-clause-tasks
+returns-clause-tasks g c = λ no_fault.
+    let reason_is = reason_of c.in-Err.refusal in
+    let before = outside g.S.Shelf g.K.Sink g.E.Sink c.args.shelf.now c.args.out.now c.args.err.now in
+    let after = outside g.S.Shelf g.K.Sink g.E.Sink c.crew_text.new.shelf c.args.out.now c.refuse-in-Err.new.sink in
+    let says : Says before after c.refuse-in-Err.result reason_is = record { status_is = c.refuse-in-Err.ensures.status; prefix = c.refuse-in-Err.ensures.prefix; whole = c.refuse-in-Err.ensures.whole } in
+    λ many. past-says (IsTrue many.plan.audit) before after c.refuse-in-Err.result reason_is (c.in-Err.ensures.tasks no_fault many) says
