@@ -1,11 +1,10 @@
 -- What a plan asks of a search is what words can ask.
-use Rattle.std.proofs.Common.{◌≡◌, ◌≤◌, ℕ, refl, arith}
+use Rattle.std.proofs.Common.{◌≡◌, ◌≤◌, ℕ, arith}
 use Rattle.yew_words.specs.declared.plan.Job.{Job}
 use Rattle.yew_words.specs.declared.plan.Job.TheVariants as jobs
 use Rattle.yew_words.specs.declared.plan.Skeleton.{Skeleton}
 use Rattle.yew_words.specs.declared.plan.Skeleton.TheVariants as skeletons
-use Rattle.yew_words.specs.declared.table.Head.{Head}
-use Rattle.yew_words.specs.declared.table.Head.TheVariants.{Search, Make}
+use Rattle.yew_words.specs.declared.table.Head.TheVariants.{Search}
 use Rattle.yew_words.specs.declared.table.Problem.{Problem}
 use Rattle.yew_words.specs.declared.table.Problem.TheVariants as problems
 use Rattle.yew_words.specs.declared.table.OptionName.TheVariants as options

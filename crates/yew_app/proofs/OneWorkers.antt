@@ -1,12 +1,12 @@
 -- A search of one worker in preorder answers as a crew of one worker does, and finds the first best node.
-use Rattle.std.proofs.Common.{◌≡◌, ◌≤◌, ℕ, List, [], ◌∷◌, map, Option, Some, None, refl, ap, sym, subst, ◌∙◌, arith}
+use Rattle.std.proofs.Common.{◌≡◌, ℕ, List, [], ◌∷◌, map, Option, Some, None, refl, ap, sym, subst, ◌∙◌, arith}
 use Rattle.std.specs.Prelude.{◌==◌, if◌then◌else◌, option_and_then}
 use Rattle.yew_kinds.specs.declared.kind.Answer.{Answer}
 use Rattle.yew_kinds.specs.declared.kind.Answer.TheVariants as answers
 use Rattle.yew_kinds.specs.declared.kind.Kind.{Kind}
 use Rattle.yew_kinds.specs.declared.kind.Kind.TheVariants as kinds
-use Rattle.yew_kinds.specs.Wrappers.{counted_tree, clipped_tree}
-use Rattle.yew_laws.specs.Greatest.{greatest_of, greatest, first_best, first_with}
+use Rattle.yew_kinds.specs.Wrappers.{counted_tree}
+use Rattle.yew_laws.specs.Greatest.{greatest_of, first_with}
 use Rattle.yew_laws.specs.PathValue.{PathValue}
 use Rattle.yew_laws.specs.SearchTree.{SearchTree, at_path, preorder}
 use Rattle.yew_laws.specs.Tree.{Member}
@@ -16,7 +16,6 @@ use Rattle.yew_log.specs.SeqLog.{seq_log}
 use Rattle.yew_log.specs.WholeSearch.{AreLogs}
 use Rattle.yew_walk.specs.declared.fault.SearchFault.{SearchFault}
 use Rattle.yew_walk.specs.declared.fault.SearchFault.TheVariants.{Memory, AuditFull, TooManyTasks}
-use Rattle.yew_walk.specs.Answers.{IsBest, IsReached}
 use Rattle.yew_walk.specs.Hands.{numbers_of}
 use Rattle.yew_walk.specs.Kinds.{IsAnswer}
 use Rattle.yew_walk.specs.LogViews.{LogView}

@@ -1,5 +1,5 @@
 -- A search whose tasks are claimed in order.
-use Rattle.std.proofs.Common.{◌≡◌, ◌≤◌, ℕ, ◌^◌, length, List, Option, map, Result, Ok, Err, subst, sym, arith}
+use Rattle.std.proofs.Common.{◌≡◌, ◌≤◌, ℕ, ◌^◌, length, map, Result, Ok, Err, subst, sym, arith}
 use Rattle.std.specs.Prelude.{IfOk, OnOk}
 use Rattle.yew_crew.specs.CrewSearch.{solution_of, HasCrewLogs}
 use Rattle.yew_kinds.specs.declared.kind.Kind.{Kind}

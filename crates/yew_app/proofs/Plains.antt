@@ -1,5 +1,5 @@
 -- Words whose plan a searcher can do, and what is wrong with others.
-use Rattle.std.proofs.Common.{◌≡◌, ℕ, List, Ok, Err, Result, refl, sym, subst, ap, ap₂, ◌∙◌, inl, inr}
+use Rattle.std.proofs.Common.{◌≡◌, ℕ, List, Ok, Err, Result, refl, sym, subst, ap, ap₂, inl, inr}
 use Rattle.std.specs.Prelude.{IsOkAnd}
 use Rattle.yew_words.specs.declared.plan.Plan.{Plan}
 use Rattle.yew_words.specs.declared.plan.Usage.{Usage}

@@ -1,5 +1,5 @@
 -- What is written behind an answer, of the logs of all workers, is the report and the audit of their entries.
-use Rattle.std.proofs.Common.{◌≡◌, ℕ, suc, ◌+◌, ◌-◌, ◌^◌, List, [], ◌∷◌, ◌++◌, map, Bool, true, false, Option, Some, None, inl, inr, refl, ap, sym, subst, ◌∙◌, arith, append-nil, append_assoc}
+use Rattle.std.proofs.Common.{◌≡◌, ℕ, suc, ◌+◌, List, [], ◌∷◌, ◌++◌, map, Bool, true, false, Some, None, inl, inr, refl, ap, sym, subst, ◌∙◌, arith, append-nil, append_assoc}
 use Rattle.std.specs.Prelude.{if◌then◌else◌, IfSome, IsTrue, IsFalse}
 use Rattle.yew_laws.specs.SearchTree.{SearchTree}
 use Rattle.yew_log.specs.declared.entry.Totals.{Totals}
@@ -12,7 +12,7 @@ use Rattle.yew_log.specs.Totals.{no_totals, make_totals, saturated_count, totals
 use Rattle.yew_log.specs.WholeSearch.{IsFirstBest, joined, all_totals, tail_text}
 use Rattle.yew_log.proofs.Walks.{totals_after-append}
 use Rattle.yew_walk.specs.LogViews.{LogView, log_view}
-use Rattle.yew_walk.specs.PlainSearch.{HasPlainLog, IsPlainLog}
+use Rattle.yew_walk.specs.PlainSearch.{HasPlainLog}
 use Rattle.yew_crew.specs.CrewSearch.{AreLogsOf}
 use Rattle.yew_words.specs.declared.plan.Skeleton.{Skeleton}
 use Rattle.yew_words.specs.declared.plan.Skeleton.TheVariants.{Sequential, Depth, Budget, Steal, Ordered}

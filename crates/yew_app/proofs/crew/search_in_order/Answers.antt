@@ -1,4 +1,3 @@
-use Rattle.std.proofs.Common.{ap, map, subst, sym}
 use Rattle.std.proofs.lemmas.Result.{IfErr-weaker}
 use Rattle.std.specs.Prelude.{IsSome}
 use Rattle.yew_laws.specs.Fold.{Fold}
@@ -6,7 +5,7 @@ use Rattle.yew_laws.specs.SearchTree.{search_tree}
 use Rattle.yew_ranked.specs.OrderedSearch.{IsOrderedFault}
 use Rattle.yew_walk.specs.LogViews.{LogView, log_view}
 use Rattle.yew_walk.specs.PlainSearch.{searched_tree}
-use Rattle.yew_app.specs.Searches.{IsFound, IsSearchFault}
+use Rattle.yew_app.specs.Searches.{IsSearchFault}
 use Rattle.yew_app.proofs.OrderedSearches.{ordered-found, ordered-fault, all-ok}
 use Rattle.yew_app.proofs.crew.search_in_order.Goals as goal
 

@@ -8,7 +8,6 @@ use Rattle.yew_walk.specs.LogViews.{LogView, log_view}
 use Rattle.yew_walk.specs.PlainSearch.{searched_tree}
 use Rattle.yew_crew.specs.CrewSearch.{solution_of, IsCrewAnswer, HasCrewLogs, IsCrewFault}
 use Rattle.yew_crew.specs.Stations.{skeleton_of}
-use Rattle.yew_app.specs.Asks.{IsSequential}
 use Rattle.yew_app.specs.Searches.{IsFound, IsSearchFault}
 use Rattle.yew_app.proofs.FoundNodes.{both-ok}
 use Rattle.yew_app.proofs.OneWorkers.{crew-search_fault}

@@ -1,7 +1,5 @@
-use Rattle.std.proofs.Common.{refl, inr}
 use Rattle.yew_words.specs.Word.{texts}
-use Rattle.yew_words.specs.Plans.{planned}
-use Rattle.yew_app.proofs.Plains.{reason-offence, reason-skeleton, no_reason, no_plan-offence, no_plan-skeleton}
+use Rattle.yew_app.proofs.Plains.{reason-offence, no_reason, no_plan-offence, no_plan-skeleton}
 use Rattle.yew_app.proofs.plan.read_plan.Goals as goal
 
 pub returns-in-Err-clause-each_reason : goal.returns-in-Err-clause-each_reason
