@@ -8,6 +8,7 @@ mod hostile;
 mod knapsack;
 mod logs;
 mod made;
+mod ordered;
 mod outcomes;
 mod semigroups;
 mod tours;
