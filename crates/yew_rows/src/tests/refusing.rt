@@ -4,6 +4,7 @@ ghost use Rattle.yew_crew.specs.Stations.{IsCoord};
 ghost use Rattle.yew_semi.specs.SemigroupLaws.{few-levels, semigroups-ranked, semigroups-bounded, semigroups-countable};
 ghost use Rattle.yew_semi.specs.SemigroupTree.{children_of, rank_of, IsSemigroup};
 
+use super::allowed;
 use std::alloc::Global;
 use std::sync::Wait;
 use std::test::Fail;
@@ -119,9 +120,9 @@ fn a_refused_node_ends_all_workers(rt: HostRuntime) -> Result<(), Fail> {
         Coord::Steal(Chunk::All),
     ] {
         for _round in 0..20 {
-            assert!(rt; is_refused(&rt, alloc, 5, coord, 3));
+            assert!(rt; is_refused(&rt, alloc, 5, allowed(coord), 3));
         }
-        assert!(rt; !is_refused(&rt, alloc, 1, coord, 3));
+        assert!(rt; !is_refused(&rt, alloc, 1, allowed(coord), 3));
     }
     Ok(())
 }

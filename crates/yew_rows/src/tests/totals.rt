@@ -2,6 +2,7 @@
 ghost use Rattle.std.specs.Prelude.{◌≤◌};
 ghost use Rattle.yew_crew.specs.Stations.{IsCoord};
 
+use super::allowed;
 use std::alloc::Global;
 use std::sync::Wait;
 use std::test::Fail;
@@ -91,7 +92,7 @@ fn totals_by_depth(rt: HostRuntime) -> Result<(), Fail> {
 #[test]
 fn totals_of_one_task(rt: HostRuntime) -> Result<(), Fail> {
     for coord in [Coord::Depth(0), Coord::Budget(1000)] {
-        let (answer, totals, logs) = counted(&rt, rt.alloc(), 5, coord, 3)?;
+        let (answer, totals, logs) = counted(&rt, rt.alloc(), 5, allowed(coord), 3)?;
         assert_eq!(rt; counts_of(&answer), [1, 1, 2, 4, 7, 12].as_slice());
         let wanted = Totals {
             taken: 1,

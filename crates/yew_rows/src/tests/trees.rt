@@ -3,6 +3,7 @@ ghost use Rattle.std.specs.Prelude.{◌≡◌, ◌≤◌, ◌<◌, true, length,
 ghost use Rattle.yew_crew.specs.Stations.{IsCoord};
 ghost use Rattle.yew_kinds.specs.Kinds.{IsTargetInRange};
 
+use super::allowed;
 use super::increasing::Increasing;
 use super::judging::{are_right_logs, greatest_of, is_right_answer, zeros};
 use std::alloc::Global;
@@ -152,7 +153,7 @@ fn many_are_searched<R: Threads + Wait + Sync>(
 #[test]
 fn crews_search_small_trees_by_depth(rt: HostRuntime) -> Result<(), Fail> {
     for coord in [Coord::Depth(0), Coord::Depth(1), Coord::Depth(3)] {
-        assert!(rt; many_are_searched(&rt, rt.alloc(), coord)?);
+        assert!(rt; many_are_searched(&rt, rt.alloc(), allowed(coord))?);
     }
     Ok(())
 }
@@ -160,7 +161,7 @@ fn crews_search_small_trees_by_depth(rt: HostRuntime) -> Result<(), Fail> {
 #[test]
 fn crews_search_small_trees_by_budget(rt: HostRuntime) -> Result<(), Fail> {
     for coord in [Coord::Budget(1), Coord::Budget(3), Coord::Budget(1000)] {
-        assert!(rt; many_are_searched(&rt, rt.alloc(), coord)?);
+        assert!(rt; many_are_searched(&rt, rt.alloc(), allowed(coord))?);
     }
     Ok(())
 }
@@ -168,7 +169,7 @@ fn crews_search_small_trees_by_budget(rt: HostRuntime) -> Result<(), Fail> {
 #[test]
 fn crews_search_small_trees_by_stealing(rt: HostRuntime) -> Result<(), Fail> {
     for coord in [Coord::Steal(Chunk::One), Coord::Steal(Chunk::All)] {
-        assert!(rt; many_are_searched(&rt, rt.alloc(), coord)?);
+        assert!(rt; many_are_searched(&rt, rt.alloc(), allowed(coord))?);
     }
     Ok(())
 }
@@ -183,7 +184,7 @@ fn two_workers_find_the_best_child(rt: HostRuntime) -> Result<(), Fail> {
         worths: Vec::from_slice(alloc, &[1, 5, 4, 3, 2, 9])?,
     };
     let best = found::<_, Counts>(&rt, alloc, &tree, Kind::Best, Coord::Depth(1), 2)?;
-    match best.answer {
+    match &best.answer {
         Answer::Best {
             worth: 5,
             path: Some(path),
@@ -191,12 +192,12 @@ fn two_workers_find_the_best_child(rt: HostRuntime) -> Result<(), Fail> {
         _ => assert!(rt; false),
     }
     let none = found::<_, Counts>(&rt, alloc, &tree, Kind::Reach(6), Coord::Depth(1), 2)?;
-    match none.answer {
+    match &none.answer {
         Answer::Reach(None) => {}
         _ => assert!(rt; false),
     }
     let all = found::<_, Counts>(&rt, alloc, &tree, Kind::Count, Coord::Depth(1), 2)?;
-    match all.answer {
+    match &all.answer {
         Answer::Count(sum) => assert!(rt; sum.counts().starts_with(&[1, 3, 2, 0])),
         _ => assert!(rt; false),
     }
@@ -215,7 +216,10 @@ fn the_greatest_crew_searches_a_small_tree(rt: HostRuntime) -> Result<(), Fail> 
             Coord::Steal(Chunk::One),
             Coord::Steal(Chunk::All),
         ] {
-            assert!(rt; are_searched(&rt, alloc, &tree, coord, 64)?, "{size}");
+            assert!(rt;
+                are_searched(&rt, alloc, &tree, allowed(coord), 64)?,
+                "{size}"
+            );
         }
     }
     Ok(())
