@@ -2,6 +2,7 @@ mod increasing;
 mod judged;
 mod judging;
 mod meeting;
+mod ordered;
 mod refusing;
 mod totals;
 mod trees;

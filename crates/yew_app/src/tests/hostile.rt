@@ -54,22 +54,27 @@ fn answered<R: Abort + Threads + Wait + Sync>(
 fn knapsacks_cut_off(rt: HostRuntime) -> Result<(), Fail> {
     let alloc = rt.alloc();
     let mut line = 1u64;
-    for len in 0..24 {
-        let mut wanted = String::from_str(alloc, "yew: f: line ")?;
-        let mut digits = Vec::new(alloc);
-        push_number(&mut digits, line)?;
-        match str::from_utf8(&digits) {
-            Ok(text) => wanted.push_str(text)?,
-            Err(_) => assert!(rt; false),
+    let mut head = Vec::new(alloc);
+    for byte in FOUR {
+        if head.len() == 24 {
+            answered(&rt, alloc, &head, b"best 90\nitems 2 4\n")?;
+        } else {
+            let mut wanted = String::from_str(alloc, "yew: f: line ")?;
+            let mut digits = Vec::new(alloc);
+            push_number(&mut digits, line)?;
+            match str::from_utf8(&digits) {
+                Ok(text) => wanted.push_str(text)?,
+                Err(_) => assert!(rt; false),
+            }
+            wanted.push_str(": ends early\n")?;
+            let files: [(&str, &[u8]); 1] = [("f", &head)];
+            refused(&rt, alloc, "knapsack ", " f", &files, 3, wanted.as_str())?;
         }
-        wanted.push_str(": ends early\n")?;
-        let files = [("f", &FOUR[..len])];
-        refused(&rt, alloc, "knapsack ", " f", &files, 3, wanted.as_str())?;
-        if FOUR[len] == b'\n' {
+        if *byte == b'\n' {
             line = line.wrapping_add(1);
         }
+        head.push(*byte)?;
     }
-    answered(&rt, alloc, &FOUR[..24], b"best 90\nitems 2 4\n")?;
     answered(
         &rt,
         alloc,
@@ -310,21 +315,16 @@ fn each_call_of_the_sink_fails(rt: HostRuntime) -> Result<(), Fail> {
     for skeleton in SKELETONS {
         let line = spelled(alloc, &["knapsack ", skeleton, " k"])?;
         let files = [("k", FOUR)];
-        for taken in 0..18 {
+        let mut head = Vec::new(alloc);
+        for (taken, byte) in text.iter().enumerate() {
             let slow = Outside {
                 most: 1,
-                writes: &[taken as u64 + 1],
+                writes: &[(taken as u64).saturating_add(1)],
                 ..CALM
             };
             let ended = run_crew(&rt, alloc, line.as_str(), &files, slow)?;
-            expect(
-                &rt,
-                line.as_str(),
-                &ended,
-                5,
-                &text[..taken],
-                "yew: write fault\n",
-            );
+            expect(&rt, line.as_str(), &ended, 5, &head, "yew: write fault\n");
+            head.push(*byte)?;
         }
         let whole = Outside {
             most: 1,

@@ -29,7 +29,7 @@ const FOUR_LINES: [&str; 11] = [
 pub fn four_cities(alloc: Global, line: usize, instead: &[&str]) -> Result<Vec<u8>, Fail> {
     let mut text = Vec::new(alloc);
     for (place, old) in FOUR_LINES.iter().enumerate() {
-        if place + 1 == line {
+        if place.saturating_add(1) == line {
             text.extend_from_slice(&lines(alloc, instead)?)?;
         } else {
             text.extend_from_slice(&lines(alloc, &[*old])?)?;
@@ -77,7 +77,7 @@ pub fn two_halves(alloc: Global) -> Result<Vec<u8>, Fail> {
         push_number(&mut text, 512)?;
         let first = if vertex < 512 { 512 } else { 0 };
         for place in 0..512u64 {
-            push_spaced(&mut text, first + place)?;
+            push_spaced(&mut text, place.saturating_add(first))?;
         }
         push_line_end(&mut text)?;
     }

@@ -4,8 +4,31 @@ use super::vectors::{TEN, equal_items, four_cities, four_cities_in};
 use super::{
     CALM, FOUR, FOUR_CYCLE, PATH_OF_THREE, TRIANGLE, expect, lines, run, run_crew, spelled,
 };
+use std::alloc::Global;
+use std::process::Abort;
+use std::sync::Wait;
 use std::test::Fail;
+use std::thread::Threads;
 use yew_lines::{push_line_end, push_spaced};
+
+/// A line of words, its status, and what is written to the sinks of the answer and of the refusal.
+type Run = (&'static str, u8, &'static str, &'static str);
+
+/// Checks what is left by runs by one worker alone and by a crew.
+fn by_one_worker<R: Abort + Threads + Wait + Sync>(
+    rt: &R,
+    alloc: Global,
+    files: &[(&str, &[u8])],
+    runs: &[Run],
+) -> Result<(), Fail> {
+    for (line, status, out, err) in runs {
+        let alone = run(alloc, line, files, CALM)?;
+        expect(rt, line, &alone, *status, out.as_bytes(), err);
+        let together = run_crew(rt, alloc, line, files, CALM)?;
+        expect(rt, line, &together, *status, out.as_bytes(), err);
+    }
+    Ok(())
+}
 
 // Words that a crew refuses as one worker does, and searches by one worker.
 #[test]
@@ -65,7 +88,7 @@ fn one_worker_of_a_crew(rt: HostRuntime) -> Result<(), Fail> {
         ("none", b"0\n"),
         ("loop", b"1\n1 0\n"),
     ];
-    for (line, status, out, err) in [
+    let runs: [Run; 32] = [
         ("knapsack sequential four", 0, "best 90\nitems 2 4\n", ""),
         ("knapsack sequential no_items", 0, "best 0\nitems\n", ""),
         ("knapsack sequential weightless", 0, "best 5\nitems 2\n", ""),
@@ -178,13 +201,8 @@ fn one_worker_of_a_crew(rt: HostRuntime) -> Result<(), Fail> {
             "made knapsack 2 42\nbest 784\nvisited 2\ncut 0\n",
             "",
         ),
-    ] {
-        let alone = run(alloc, line, &files, CALM)?;
-        expect(&rt, line, &alone, status, out.as_bytes(), err);
-        let together = run_crew(&rt, alloc, line, &files, CALM)?;
-        expect(&rt, line, &together, status, out.as_bytes(), err);
-    }
-    Ok(())
+    ];
+    by_one_worker(&rt, alloc, &files, &runs)
 }
 
 // Each best set and each map here is the only one, so that each skeleton writes it.

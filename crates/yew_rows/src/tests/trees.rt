@@ -34,7 +34,7 @@ fn drawn(state: &mut u64) -> u64 {
 
 /// A tree of a size, in which the parent of a number is one of so many before it, and each worth of the table is below the
 /// cap, or 0 where that is 0.
-fn grown(
+pub fn grown(
     alloc: Global,
     seed: u64,
     size: usize,
