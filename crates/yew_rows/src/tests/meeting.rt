@@ -1,5 +1,5 @@
 //! Two workers that meet: a schedule that a gate, or the problem, waits for.
-ghost use Rattle.std.specs.Prelude.{◌≡◌};
+ghost use Rattle.std.specs.Prelude.{◌≡◌, ◌≤◌};
 ghost use Rattle.yew_crew.specs.Stations.{IsCoord};
 
 use std::alloc::Global;
@@ -12,6 +12,7 @@ use yew_io::Gate;
 use yew_kinds::{Answer, ByDepth, Kind};
 use yew_laws::{Memory, Problem};
 use yew_log::Counts;
+use yew_ranked::search_ordered;
 use yew_semi::Semigroups;
 use yew_stack::Chunk;
 use yew_walk::{Found, SearchFault};
@@ -161,12 +162,49 @@ fn is_counted<P: Problem, R: Threads + Wait + Sync>(
     })
 }
 
+/// Whether two workers count the semigroups by tasks in order, and the gate has seen both.
+fn is_counted_in_order<P: Problem, R: Threads + Wait + Sync>(
+    rt: &R,
+    alloc: Global,
+    problem: &P,
+    depth: u32,
+    gate: &Meeting,
+) -> Result<bool, SearchFault>
+    requires root { P.sound problem.now (P.root problem.now) }
+    requires depth { (1 ≤ depth) × (depth ≤ 255) }
+{
+    let tally = ByDepth { depths: 12 };
+    let Found { answer, logs: _ } = search_ordered::<_, _, Counts, _, _>(
+        rt,
+        alloc,
+        problem,
+        Kind::Count,
+        &tally,
+        depth,
+        2,
+        gate,
+    )?;
+    Ok(match answer {
+        Answer::Count(sum) => sum.counts() == COUNTS.as_slice() && gate.is_held(),
+        _ => false,
+    })
+}
+
 // The first two tasks are the root and its only child. Whichever worker takes the third, a fourth is there for the other.
 #[test]
 fn two_workers_meet_at_the_third_task(rt: HostRuntime) -> Result<(), Fail> {
     let gate = Meeting::new(1, 2, 10000000);
     let problem = Semigroups::new(12);
     assert!(rt; is_counted(&rt, rt.alloc(), &problem, Coord::Depth(6), &gate)?);
+    Ok(())
+}
+
+// The first task is the root's, which the caller takes alone. Whichever worker takes the third, a fourth is there for the other.
+#[test]
+fn two_workers_meet_at_the_third_task_in_order(rt: HostRuntime) -> Result<(), Fail> {
+    let gate = Meeting::new(1, 2, 10000000);
+    let problem = Semigroups::new(12);
+    assert!(rt; is_counted_in_order(&rt, rt.alloc(), &problem, 6, &gate)?);
     Ok(())
 }
 
