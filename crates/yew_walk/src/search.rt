@@ -1,7 +1,7 @@
 //! The sequential search, of each kind.
 
 ghost use Rattle.std.specs.Prelude.{◌≡◌, ◌≤◌, [], ◌∷◌, false, IsSome, IfOk, IfErr};
-ghost use Rattle.yew_kinds.specs.Kinds.{IsTargetInRange};
+ghost use Rattle.yew_kinds.specs.Kinds.{IsKindInRange, gap_of};
 ghost use Rattle.yew_kinds.specs.Wrappers.{counted_tree, clipped_tree};
 ghost use Rattle.yew_laws.specs.Fold.{Fold};
 ghost use Rattle.yew_laws.specs.Greatest.{greatest, first_best};
@@ -47,7 +47,7 @@ fn search_alone<Q: Problem, T: Tally<Q::Node>, R: Recorder>(
     requires { Q.sound problem.now (Q.root problem.now) }
     ensures best { IfOk result (λ alone. let t = search_tree Q.Problem problem.now in incumbent_of alone.hand ≡ record { worth = greatest t; path = first_best t }) }
     ensures sum { IfOk result (λ alone. let t = search_tree Q.Problem problem.now in NeverCuts t → alone.hand.sum ≡ Fold t (T.join tally.now) (T.none tally.now) (T.of tally.now)) }
-    ensures log { IfOk result (λ alone. IsPlainLog (search_tree Q.Problem problem.now) (log_view (R.told alone.log) (R.totals alone.log) (R.number alone.log))) }
+    ensures log { IfOk result (λ alone. IsPlainLog (search_tree Q.Problem problem.now) (gap_in keying) (log_view (R.told alone.log) (R.totals alone.log) (R.number alone.log))) }
     ensures fault { IfErr result (IsPlainFault (search_tree Q.Problem problem.now) ((log : R) × IsSome (R.told log))) }
 {
     let (best, mut seat) = Best::new(alloc, 1)?;
@@ -172,11 +172,11 @@ pub fn search_plain<P: Problem, T: Tally<P::Node>, R: Recorder>(
     tally: &T,
 ) -> Result<Found<T::Sum, R>, SearchFault>
     requires root { P.sound problem.now (P.root problem.now) }
-    requires target { IsTargetInRange kind }
+    requires range { IsKindInRange kind }
     ensures answer { IfOk result (λ found. let t = search_tree P.Problem problem.now in
         IsAnswer t (Fold t (T.join tally.now) (T.none tally.now) (T.of tally.now)) kind found.answer) }
-    ensures logs { IfOk result (λ found. HasPlainLog (searched_tree (search_tree P.Problem problem.now) kind) (λ log. log_view (R.told log) (R.totals log) (R.number log)) found.logs.items) }
-    ensures fault { IfErr result (IsPlainFault (searched_tree (search_tree P.Problem problem.now) kind) ((log : R) × IsSome (R.told log))) }
+    ensures logs { IfOk result (λ found. HasPlainLog (searched_tree (search_tree P.Problem problem.now) kind) (gap_of kind) (λ log. log_view (R.told log) (R.totals log) (R.number log)) found.logs.items) }
+    ensures fault { IfErr result (IsPlainFault (searched_tree (search_tree P.Problem problem.now) kind) (gap_of kind) ((log : R) × IsSome (R.told log))) }
 {
     match kind {
         Kind::Count => count(alloc, problem, tally),
