@@ -1,7 +1,7 @@
 //! A crew of workers in threads.
 
 ghost use Rattle.std.specs.Prelude.{◌≡◌, IfOk, IfErr, IsSome};
-ghost use Rattle.yew_kinds.specs.Kinds.{IsTargetInRange};
+ghost use Rattle.yew_kinds.specs.Kinds.{IsKindInRange};
 ghost use Rattle.yew_laws.specs.Fold.{Fold};
 ghost use Rattle.yew_laws.specs.SearchTree.{search_tree};
 ghost use Rattle.yew_walk.specs.LogViews.{log_view};
@@ -84,7 +84,7 @@ fn search_shared<P: Problem, T: Tally<P::Node>, R: Recorder, G: Gate, H: Threads
     asked: Asked,
 ) -> Result<Found<T::Sum, R>, SearchFault>
     requires root { P.sound problem.now (P.root problem.now) }
-    requires target { IsTargetInRange kind }
+    requires range { IsKindInRange kind }
     requires askable { IsAskable asked }
     requires shared { IsShared asked.skeleton coord }
     ensures found { IfOk result (λ found. let t = search_tree P.Problem problem.now in
@@ -119,7 +119,7 @@ fn search_in_order<P: Problem, T: Tally<P::Node>, R: Recorder, G: Gate, H: Threa
     asked: Asked,
 ) -> Result<Found<T::Sum, R>, SearchFault>
     requires root { P.sound problem.now (P.root problem.now) }
-    requires target { IsTargetInRange kind }
+    requires range { IsKindInRange kind }
     requires askable { IsAskable asked }
     requires in_order { asked.skeleton ≡ skeleton.Ordered depth }
     ensures found { IfOk result (λ found. let t = search_tree P.Problem problem.now in
@@ -159,7 +159,7 @@ pub(crate) fn search_together<
     asked: Asked,
 ) -> Result<Found<T::Sum, R>, SearchFault>
     requires root { P.sound problem.now (P.root problem.now) }
-    requires target { IsTargetInRange kind }
+    requires range { IsKindInRange kind }
     requires askable { IsAskable asked }
     ensures found { IfOk result (λ found. let t = search_tree P.Problem problem.now in
         IsFound t (Fold t (T.join tally.now) (T.none tally.now) (T.of tally.now)) kind asked (λ log. log_view (R.told log) (R.totals log) (R.number log)) found) }

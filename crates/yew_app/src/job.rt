@@ -2,7 +2,7 @@
 
 ghost use Rattle.std.specs.Prelude.{◌≡◌, ◌≤◌, true, List, ℕ, IfSome, IfOk, IfErr, IsErrAnd, Some};
 ghost use Rattle.yew_io.specs.Faults.{Rose};
-ghost use Rattle.yew_kinds.specs.Kinds.{IsTargetInRange};
+ghost use Rattle.yew_kinds.specs.Kinds.{IsKindInRange};
 ghost use Rattle.yew_laws.specs.Fold.{Fold};
 ghost use Rattle.yew_laws.specs.SearchTree.{search_tree};
 ghost use Rattle.yew_app.specs.Meanings.{Meaning, known_files, IsUnreadable};
@@ -38,7 +38,7 @@ pub(crate) trait SearchJob {
     /// What is searched for.
     fn kind(&self) -> Kind
         ensures kind { result ≡ (meaning self.now).kind }
-        ensures range { IsTargetInRange result };
+        ensures range { IsKindInRange result };
 
     /// What is counted.
     fn tally(&self) -> Self::Tally

@@ -1,7 +1,7 @@
 //! Who searches: one worker in preorder, or a crew.
 
 ghost use Rattle.std.specs.Prelude.{◌≡◌, true, false, IfOk, IfErr, IsSome};
-ghost use Rattle.yew_kinds.specs.Kinds.{IsTargetInRange};
+ghost use Rattle.yew_kinds.specs.Kinds.{IsKindInRange};
 ghost use Rattle.yew_laws.specs.Fold.{Fold};
 ghost use Rattle.yew_laws.specs.SearchTree.{search_tree};
 ghost use Rattle.yew_walk.specs.LogViews.{log_view};
@@ -58,7 +58,7 @@ pub(crate) fn search_alone<P: Problem, T: Tally<P::Node>, R: Recorder>(
     asked: Asked,
 ) -> Result<Found<T::Sum, R>, SearchFault>
     requires root { P.sound problem.now (P.root problem.now) }
-    requires target { IsTargetInRange kind }
+    requires range { IsKindInRange kind }
     requires askable { IsAskable asked }
     requires done { IsSequential asked.skeleton }
     ensures found { IfOk result (λ found. let t = search_tree P.Problem problem.now in

@@ -1,7 +1,7 @@
 -- What a search by a crew answers, which logs it hands back, and why it is refused.
-use Rattle.std.specs.Prelude.{◌≡◌, ℕ, suc, ◌+◌, ◌≤◌, ◌↔◌, List, [], ◌∷◌, Option, Some, None, IsSome, IsNone, IfSome, IsSomeAnd, option_and_then}
+use Rattle.std.specs.Prelude.{◌≡◌, ℕ, suc, ◌≤◌, ◌↔◌, List, [], ◌∷◌, Option, Some, None, IsSome, IsNone, IfSome, IsSomeAnd, option_and_then}
 use Rattle.yew_kinds.specs.declared.kind.Kind.{Kind}
-use Rattle.yew_kinds.specs.declared.kind.Kind.TheVariants.{Count, Best, Reach}
+use Rattle.yew_kinds.specs.declared.kind.Kind.TheVariants.{Count, Best, Reach, Near}
 use Rattle.yew_kinds.specs.declared.kind.Answer as answers
 use Rattle.yew_kinds.specs.declared.kind.Answer.TheVariants as answer
 use Rattle.yew_laws.specs.Greatest.{greatest, Reach as Reached}
@@ -14,21 +14,10 @@ use Rattle.yew_log.specs.Totals.{no_totals, totals_after}
 use Rattle.yew_log.specs.WholeSearch.{AreLogs}
 use Rattle.yew_walk.specs.declared.fault.SearchFault.{SearchFault}
 use Rattle.yew_walk.specs.declared.fault.SearchFault.TheVariants.{Memory, AuditFull, TooManyTasks}
+use Rattle.yew_walk.specs.Answers.{IsNear}
 use Rattle.yew_walk.specs.LogViews.{LogView}
 
--- the gap that a search of a kind permits: no kind permits one yet
-abbrev pub gap_of : Kind → ℕ
-gap_of kind = 0
-
 module _ {N : Type 0} (t : SearchTree N) where
-  -- A worth within the gap of the greatest one, which is 0 only where the greatest is, with a path whose node has it: there is none exactly where the worth is 0
-  pub record IsNear (gap worth : ℕ) (path : Option PathValue) : Type 0 where
-    pub within : greatest t ≤ worth + gap
-    pub none_greater : worth ≤ greatest t
-    pub no_answer : worth ≡ 0 → greatest t ≡ 0
-    pub absent : IsNone path ↔ (worth ≡ 0)
-    pub has_worth : IfSome path (λ p. worth_at t p.numbers ≡ Some worth)
-
   -- the greatest worth, with a path whose node has it: there is none exactly where that worth is 0
   pub record IsGreatest (worth : ℕ) (path : Option PathValue) : Type 0 where
     pub worth_is : worth ≡ greatest t
@@ -52,6 +41,9 @@ module _ {N S : Type 0} (t : SearchTree N) (fold : S) where
   IsCrewAnswer (Reach target) (answer.Count sum) = ⊥
   IsCrewAnswer (Reach target) (answer.Best worth path) = ⊥
   IsCrewAnswer (Reach target) (answer.Reach path) = IsMeeting t target path
+  IsCrewAnswer (Near gap) (answer.Count sum) = ⊥
+  IsCrewAnswer (Near gap) (answer.Best worth path) = IsNear t gap worth path
+  IsCrewAnswer (Near gap) (answer.Reach path) = ⊥
 
 -- the path that an answer names, if it names one
 abbrev pub path_in : {S : Type 0} → answers.Answer S → Option PathValue

@@ -1,9 +1,9 @@
 //! The search of a tree by a crew, of each kind.
 ghost use Rattle.std.specs.Prelude.{◌≡◌, ◌≤◌, map, IsSome, IfOk, IfErr};
-ghost use Rattle.yew_crew.specs.CrewSearch.{gap_of, solution_of, IsCrewAnswer, HasCrewLogs, IsCrewFault};
+ghost use Rattle.yew_crew.specs.CrewSearch.{solution_of, IsCrewAnswer, HasCrewLogs, IsCrewFault};
 ghost use Rattle.yew_crew.specs.Ending.{IsFound};
 ghost use Rattle.yew_crew.specs.Stations.{searched, skeleton_of, IsCoord};
-ghost use Rattle.yew_kinds.specs.Kinds.{IsTargetInRange};
+ghost use Rattle.yew_kinds.specs.Kinds.{IsKindInRange, gap_of};
 ghost use Rattle.yew_kinds.specs.Wrappers.{counted_tree, clipped_tree};
 ghost use Rattle.yew_kinds.specs.declared.kind.Kind.TheVariants as kind;
 ghost use Rattle.yew_laws.specs.Fold.{Fold};
@@ -164,7 +164,7 @@ pub fn search_crew<P: Problem, T: Tally<P::Node>, R: Recorder, G: Gate, H: Threa
     gate: &G,
 ) -> Result<Found<T::Sum, R>, SearchFault>
     requires root { P.sound problem.now (P.root problem.now) }
-    requires target { IsTargetInRange kind }
+    requires range { IsKindInRange kind }
     requires workers { (1 ≤ workers) × (workers ≤ 64) }
     requires coord { IsCoord coord }
     ensures answer { IfOk result (λ found. let t = search_tree P.Problem problem.now in
@@ -177,5 +177,6 @@ pub fn search_crew<P: Problem, T: Tally<P::Node>, R: Recorder, G: Gate, H: Threa
         Kind::Count => count(rt, alloc, problem, tally, coord, workers, gate),
         Kind::Best => best(rt, alloc, problem, coord, workers, gate),
         Kind::Reach(target) => reach(rt, alloc, problem, target, coord, workers, gate),
+        Kind::Near(_) => unreachable!(),
     }
 }

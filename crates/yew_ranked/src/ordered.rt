@@ -1,7 +1,7 @@
 //! The search of a tree by several workers, whose answer is that of one worker, its path included.
 ghost use Rattle.std.specs.Prelude.{◌≡◌, ◌≤◌, ◌^◌, length, map, IsSome, IfOk, IfErr, OnOk};
 ghost use Rattle.yew_crew.specs.CrewSearch.{HasCrewLogs, solution_of};
-ghost use Rattle.yew_kinds.specs.Kinds.{IsTargetInRange};
+ghost use Rattle.yew_kinds.specs.Kinds.{IsKindInRange, IsExact};
 ghost use Rattle.yew_kinds.specs.Wrappers.{counted_tree, clipped_tree};
 ghost use Rattle.yew_laws.specs.Fold.{Fold};
 ghost use Rattle.yew_laws.specs.SearchTree.{search_tree};
@@ -253,7 +253,7 @@ fn reach<P: Problem, S: Drop, R: Recorder, G: Gate, H: Threads + Wait + Sync>(
 /// A count answers the fold of all nodes by the tally, each at its depth. A search for a best node answers the greatest
 /// worth, and the first path in preorder that has it; there is none exactly where that worth is 0. A decision answers the
 /// first path in preorder whose node has at least the target as its worth; there is none exactly where no node has. A
-/// target is from 1 to 2^40 - 1.
+/// target is from 1 to 2^40 - 1. No gap is permitted.
 ///
 /// There is a log of each worker, in order, and together they are those of a whole search, of which the first one's begins
 /// with the items.
@@ -280,7 +280,8 @@ pub fn search_ordered<
     gate: &G,
 ) -> Result<Found<T::Sum, R>, SearchFault>
     requires root { P.sound problem.now (P.root problem.now) }
-    requires target { IsTargetInRange kind }
+    requires range { IsKindInRange kind }
+    requires exact { IsExact kind }
     requires depth { (1 ≤ depth) × (depth ≤ 255) }
     requires workers { (1 ≤ workers) × (workers ≤ 64) }
     ensures answer { IfOk result (λ found. let t = search_tree P.Problem problem.now in
@@ -294,5 +295,6 @@ pub fn search_ordered<
         Kind::Count => count(rt, alloc, problem, tally, depth, workers, gate),
         Kind::Best => best(rt, alloc, problem, depth, workers, gate),
         Kind::Reach(target) => reach(rt, alloc, problem, target, depth, workers, gate),
+        Kind::Near(_) => unreachable!(),
     }
 }

@@ -5,6 +5,7 @@ pub mod Entering
 pub mod Hands
 pub mod Keys
 pub mod Kinds
+pub mod FirstFound
 pub mod LogViews
 pub mod Noting
 pub mod Outlets

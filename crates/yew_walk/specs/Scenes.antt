@@ -9,6 +9,7 @@ use Rattle.yew_laws.specs.Bag.{SameBag, PartOfBag}
 use Rattle.yew_laws.specs.Fold.{fold_of, of_member}
 use Rattle.yew_laws.specs.SearchTree.{search_tree, below, IsTask}
 use Rattle.yew_laws.specs.Tree.{Member}
+use Rattle.yew_log.specs.HeldValues.{plain}
 use Rattle.yew_log.specs.Lawful.{IsWalk, IsBrokenWalk}
 use Rattle.yew_log.specs.Notes.{Note, taken, visits, sent_paths, event_paths, path_of}
 use Rattle.yew_log.specs.Policies.{PolicyMeaning, PolicyInput, on, PolicyGroup, HasPolicy}
@@ -23,12 +24,11 @@ use Rattle.yew_walk.specs.declared.fault.SearchFault.{SearchFault}
 use Rattle.yew_walk.specs.declared.fault.SearchFault.TheVariants.{Memory, AuditFull, TooManyTasks}
 use Rattle.yew_walk.specs.declared.hand.Hand.{Hand}
 use Rattle.yew_walk.specs.declared.keying.Keying.{Keying}
-use Rattle.yew_walk.specs.declared.keying.Keying.TheVariants.{Plain}
 use Rattle.yew_walk.specs.declared.policy.Event.{Event}
 use Rattle.yew_walk.specs.Asking.{input_of}
 use Rattle.yew_walk.specs.Dealt.{IsDealt}
 use Rattle.yew_walk.specs.Hands.{incumbent_of, best_after, AreVisited}
-use Rattle.yew_walk.specs.Keys.{kind_of}
+use Rattle.yew_walk.specs.Keys.{kind_of, gap_in}
 use Rattle.yew_walk.specs.LogViews.{LogView, log_after, IsWithin}
 use Rattle.yew_walk.specs.Outlets.{OutletCall, outlet_calls}
 use Rattle.yew_walk.specs.PolicyStates.{policy_state, HasGoneOn}
@@ -64,7 +64,7 @@ IsCause (TooManyTasks number) log ahead = ⊥
 module _ {S N K Sum Q : Type 0} (meaning : Ghosts S N K) (problem : S) (keying : Keying) (join : Sum → Sum → Sum) (of : N → ℕ → Sum) (policy : PolicyMeaning Q) (task : List ℕ) where
   -- the walk is that of the root's task by one worker, which shares nothing out
   pub record IsAlone (first : Scene N Sum Q) : Type 0 where
-    pub plain_keys : keying ≡ Plain
+    pub plain_keys : kind_of keying ≡ plain
     pub never_asks : (state : Q) (input : PolicyInput) → policy.act state input ≡ on
     pub of_root : task ≡ []
     pub none_offered : first.seat.offered ≡ []
@@ -82,7 +82,7 @@ module _ {S N K Sum Q : Type 0} (meaning : Ghosts S N K) (problem : S) (keying :
     pub gone_on : HasGoneOn (search_tree meaning problem) policy first.state notes answers (levels (meaning.remaining problem) stack) now.state
     pub log_is : now.log ≡ log_after first.log (taken task ∷ notes)
     pub within : IsWithin now.log.told
-    pub in_sequence : IsAlone first → IsInSequence (search_tree meaning problem) notes (levels (meaning.remaining problem) stack)
+    pub in_sequence : IsAlone first → IsInSequence (search_tree meaning problem) (gap_in keying) notes (levels (meaning.remaining problem) stack)
     pub are_visited : AreVisited (search_tree meaning problem) notes members
     pub sum_is : now.hand.sum ≡ sum_after join of first.hand.sum members
     pub best_is : incumbent_of now.hand ≡ best_after keying (incumbent_of first.hand) (visits notes)
@@ -108,7 +108,7 @@ module _ {S N K Sum Q : Type 0} (meaning : Ghosts S N K) (problem : S) (keying :
     pub dealt : IsDealt (search_tree meaning problem) (notes ++ note ∷ []) (levels (meaning.remaining problem) stack)
     pub log_is : now.log ≡ log_after first.log (taken task ∷ (notes ++ note ∷ []))
     pub within : IsWithin now.log.told
-    pub in_sequence : IsAlone first → IsInSequence (search_tree meaning problem) (notes ++ note ∷ []) (levels (meaning.remaining problem) stack)
+    pub in_sequence : IsAlone first → IsInSequence (search_tree meaning problem) (gap_in keying) (notes ++ note ∷ []) (levels (meaning.remaining problem) stack)
     pub are_visited : AreVisited (search_tree meaning problem) (notes ++ note ∷ []) members
     pub sum_is : now.hand.sum ≡ sum_after join of first.hand.sum members
     pub best_is : incumbent_of now.hand ≡ best_after keying (incumbent_of first.hand) (visits (notes ++ note ∷ []))
@@ -125,15 +125,15 @@ module _ {S N K Sum Q : Type 0} (meaning : Ghosts S N K) (problem : S) (keying :
     pub tasks : List (Task N)
     pub one_ahead : length ahead ≤ 1
     pub log_is : now.log ≡ log_after first.log notes
-    pub keeps : IsBrokenWalk (search_tree meaning problem) 0 (kind_of keying) task notes
-    pub keeps_ahead : IsBrokenWalk (search_tree meaning problem) 0 (kind_of keying) task (notes ++ ahead)
+    pub keeps : IsBrokenWalk (search_tree meaning problem) (gap_in keying) (kind_of keying) task notes
+    pub keeps_ahead : IsBrokenWalk (search_tree meaning problem) (gap_in keying) (kind_of keying) task (notes ++ ahead)
     pub part : PartOfBag (covered_paths (search_tree meaning problem) (notes ++ ahead)) (below (search_tree meaning problem) task)
     pub goes : SeatGoes (search_tree meaning problem) keying first.seat (notes ++ ahead) now.seat
     pub sent_are : SameBag now.sent (first.sent ++ tasks)
     pub noted : PartOfBag (paths_of tasks) (sent_paths notes)
     pub sound : AllByRecursion (λ task'. IsTask meaning problem task'.path.numbers task'.node) tasks
     pub cause : IsCause fault now.log ahead
-    pub of_sequence : IsAlone first → (rest : List Note) × (seq_log (search_tree meaning problem) 0 ≡ (notes ++ ahead) ++ rest)
+    pub of_sequence : IsAlone first → (rest : List Note) × (seq_log (search_tree meaning problem) (gap_in keying) ≡ (notes ++ ahead) ++ rest)
 
   -- the walk came to its end: its entries are one segment, which has the policy's groups, and the calls that were made of
   -- the outlet are those along its entries
@@ -142,7 +142,7 @@ module _ {S N K Sum Q : Type 0} (meaning : Ghosts S N K) (problem : S) (keying :
     pub answers : List Bool
     pub tasks : List (Task N)
     pub members : List (Member N)
-    pub walk : IsWalk (search_tree meaning problem) 0 (kind_of keying) (PolicyGroup (search_tree meaning problem) policy first.state answers) task notes
+    pub walk : IsWalk (search_tree meaning problem) (gap_in keying) (kind_of keying) (PolicyGroup (search_tree meaning problem) policy first.state answers) task notes
     pub one_each : length answers ≡ length (event_paths notes)
     pub state_is : now.state ≡ policy_state policy first.state notes answers
     pub goes : SeatGoes (search_tree meaning problem) keying first.seat notes now.seat

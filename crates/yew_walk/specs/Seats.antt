@@ -4,7 +4,7 @@ use Rattle.yew_best.specs.Seats.{SeatView, has_read}
 use Rattle.yew_laws.specs.SearchTree.{SearchTree, bound_at}
 use Rattle.yew_log.specs.Notes.{Note, taken, visited, cut, spawned, handed, ended}
 use Rattle.yew_walk.specs.declared.keying.Keying.{Keying}
-use Rattle.yew_walk.specs.Keys.{key_of, held_of}
+use Rattle.yew_walk.specs.Keys.{key_of, held_of, limit_of}
 
 -- the seat after it has offered a key
 abbrev pub has_offered : SeatView → ℕ → SeatView
@@ -18,17 +18,17 @@ pub record IsRead (seat : SeatView) (word : ℕ) : Type 0 where
   pub whole : seat.share ≡ seat.best.seats → (word ≡ 0) ⊎ Contains seat.offered word
 
 module _ {N : Type 0} (t : SearchTree N) (keying : Keying) where
-  -- the word that is read before a visit: it has the held value, and but for the root it is below the key of the node's bound
+  -- the word that is read before a visit: it has the held value, and but for the root what it permits to cut is below the key of the node's bound
   pub record IsVisitWord (seat : SeatView) (path : List ℕ) (held word : ℕ) : Type 0 where
     pub is_read : IsRead seat word
     pub held_is : held ≡ held_of keying word
-    pub due : path ≢ [] → IfSome (bound_at t path) (λ bound. word < key_of keying bound)
+    pub due : path ≢ [] → IfSome (bound_at t path) (λ bound. limit_of keying word < key_of keying bound)
 
-  -- the word that is read before a cut: it has the held value, and is at least the key of the bound
+  -- the word that is read before a cut: it has the held value, and permits to cut the key of the bound
   pub record IsCutWord (seat : SeatView) (bound held word : ℕ) : Type 0 where
     pub is_read : IsRead seat word
     pub held_is : held ≡ held_of keying word
-    pub permitted : key_of keying bound ≤ word
+    pub permitted : key_of keying bound ≤ limit_of keying word
 
   -- a seat along entries: before each visit and each cut one word is read, by which it was decided, and each visit
   -- offers the key of its worth; nothing else is read or offered

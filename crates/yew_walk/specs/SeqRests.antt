@@ -8,11 +8,11 @@ use Rattle.yew_log.specs.Notes.{Note, taken, cut, ended}
 use Rattle.yew_log.specs.SeqLog.{visited_worth, visit_notes, seq_log}
 use Rattle.yew_stack.specs.Levels.{LevelView}
 
-module _ {N : Type 0} (t : SearchTree N) where
+module _ {N : Type 0} (t : SearchTree N) (gap : ℕ) where
   -- the entries of a child, which is cut or visited, where this worth is held
   abbrev pub child_notes : List ℕ → N → ℕ → List Note
   child_notes path node held =
-      if nat_le (t.bound node) (limit 0 held) then cut path (t.bound node) held ∷ [] else visit_notes t 0 (t.rank node) path node held
+      if nat_le (t.bound node) (limit gap held) then cut path (t.bound node) held ∷ [] else visit_notes t gap (t.rank node) path node held
 
   -- the entries of the children that a level has still to give, where this worth is held
   abbrev pub level_notes : LevelView N → ℕ → List Note
@@ -28,4 +28,4 @@ module _ {N : Type 0} (t : SearchTree N) where
   -- the entries so far, behind the Taken entry of the root, and then those still to come of these levels, the lowest
   -- first, are the sequential log
   pub record IsInSequence (notes : List Note) (ls : List (LevelView N)) : Type 0 where
-    pub is : seq_log t 0 ≡ taken [] ∷ (notes ++ rest_notes (reverse ls) (visited_worth notes))
+    pub is : seq_log t gap ≡ taken [] ∷ (notes ++ rest_notes (reverse ls) (visited_worth notes))

@@ -15,7 +15,7 @@ use Rattle.yew_log.proofs.Frames.{Frame, around, AreFrames}
 use Rattle.yew_stack.specs.Levels.{LevelView}
 use Rattle.yew_stack.specs.ToCome.{levels_to_come, node_tree, IsOpen}
 use Rattle.yew_walk.specs.declared.keying.Keying.{Keying}
-use Rattle.yew_walk.specs.Keys.{kind_of}
+use Rattle.yew_walk.specs.Keys.{kind_of, gap_in}
 use Rattle.yew_walk.specs.Seats.{SeatGoes}
 
 -- the levels below that of an open visit, the highest first, with the frames of their visits: the child that is under
@@ -63,7 +63,7 @@ pub record IsUnderWay {S N K : Type 0} (meaning : Ghosts S N K) (problem : S) (k
   pub between_there : AllByRecursion (λ path. IsSome (at_path (search_tree meaning problem) path)) between
   pub valued : IsValued (search_tree meaning problem) notes
   pub rises : HeldRises (taken task ∷ notes)
-  pub judged : IsJudged (search_tree meaning problem) 0 (kind_of keying) (taken task ∷ notes)
+  pub judged : IsJudged (search_tree meaning problem) (gap_in keying) (kind_of keying) (taken task ∷ notes)
   pub untaken : taken_paths notes ≡ []
   pub begins : (notes ≡ []) ⊎ Begins task notes
   pub levels_open : AllByRecursion (IsOpen (meaning.sound problem) (meaning.children problem) (meaning.root problem)) ls

@@ -5,7 +5,7 @@ use Rattle.yew_best.specs.Seats.{SeatView}
 use Rattle.yew_laws.specs.SearchTree.{SearchTree}
 use Rattle.yew_log.specs.Segment.{Segment, entries_in}
 use Rattle.yew_walk.specs.declared.keying.Keying.{Keying}
-use Rattle.yew_walk.specs.declared.keying.Keying.TheVariants.{Plain, Ranked}
+use Rattle.yew_walk.specs.declared.keying.Keying.TheVariants.{Plain, Ranked, Gap}
 use Rattle.yew_walk.specs.Seats.{SeatGoes}
 
 -- the segment of a walk, and its keys
@@ -22,12 +22,12 @@ abbrev pub SeatGoesOn : {N : Type 0} → SearchTree N → SeatView → List Keye
 SeatGoesOn t old [] new = new ≡ old
 SeatGoesOn t old (walk ∷ walks) new = (mid : SeatView) × SeatGoes t walk.keying old (entries_in walk.segment) mid × SeatGoesOn t mid walks new
 
--- both have plain keys, or the item of the first has the smaller number
+-- both have plain keys with one gap, or the item of the first has the smaller number
 abbrev pub ComesFirst : Keying → Keying → Type 0
 ComesFirst Plain Plain = Unit {0}
 ComesFirst (Ranked first) (Ranked second) = first < second
-ComesFirst Plain (Ranked second) = ⊥
-ComesFirst (Ranked first) Plain = ⊥
+ComesFirst (Gap first) (Gap second) = first ≡ second
+ComesFirst _ _ = ⊥
 
 -- the walks have one kind of keys, and the numbers of their items rise
 abbrev pub KeysRise : List KeyedSegment → Type 0

@@ -1,7 +1,7 @@
 //! How a worth is offered to the incumbent word.
 
-ghost use Rattle.std.specs.Prelude.{◌≡◌, ◌<◌, ◌≤◌, ◌^◌, IsTrue, ◌↔◌};
-ghost use Rattle.yew_walk.specs.Keys.{IsKeying, key_of, held_of};
+ghost use Rattle.std.specs.Prelude.{◌≡◌, ◌<◌, ◌≤◌, ◌^◌, min, IsTrue, ◌↔◌};
+ghost use Rattle.yew_walk.specs.Keys.{IsKeying, key_of, held_of, limit_of};
 
 /// The greatest number of an item, and so many keys have the same worth but one: 2^20 - 1.
 const LAST_ITEM: u32 = 1_048_575;
@@ -17,6 +17,9 @@ pub enum Keying {
     /// The worth of a node, and among nodes of equal worth the one of the item with the smaller number first: the worth
     /// times 2^20, and 2^20 - 1 less the number of the item, which is below 2^20.
     Ranked(u32),
+    /// The worth of a node, where a node is also cut off whose bound is greater than the held worth by no more than this
+    /// gap, which is at most 2^40 - 2. Where nothing is held, no gap is permitted.
+    Gap(u64),
 }
 
 impl Keying {
@@ -28,7 +31,7 @@ impl Keying {
         ensures { result ≡ key_of self worth }
     {
         match self {
-            Keying::Plain => worth,
+            Keying::Plain | Keying::Gap(_) => worth,
             Keying::Ranked(rank) => worth * ITEMS + (LAST_ITEM - rank) as u64,
         }
     }
@@ -39,8 +42,20 @@ impl Keying {
         ensures { result ≡ held_of self word }
     {
         match self {
-            Keying::Plain => word,
+            Keying::Plain | Keying::Gap(_) => word,
             Keying::Ranked(_) => word / ITEMS,
+        }
+    }
+
+    /// The greatest key of a bound that is cut off where this word is read, and 2^64 - 1 where that is greater.
+    #[inline]
+    pub fn limit(self, word: u64) -> u64
+        ensures { result ≡ min (limit_of self word) 18446744073709551615 }
+    {
+        match self {
+            Keying::Plain | Keying::Ranked(_) => word,
+            Keying::Gap(_) if word == 0 => 0,
+            Keying::Gap(gap) => word.saturating_add(gap),
         }
     }
 }

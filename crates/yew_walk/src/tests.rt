@@ -1,6 +1,6 @@
 ghost use Rattle.std.specs.Prelude.{◌≡◌, ◌<◌, ◌^◌, ◌++◌, OnOk, OnErr};
 ghost use Rattle.std.specs.List.{AllByRecursion};
-ghost use Rattle.yew_kinds.specs.Kinds.{IsTargetInRange};
+ghost use Rattle.yew_kinds.specs.Kinds.{IsKindInRange};
 ghost use Rattle.yew_laws.specs.Bag.{SameBag};
 ghost use Rattle.yew_laws.specs.SearchTree.{IsTask};
 ghost use Rattle.yew_walk.specs.Keys.{IsKeying};
@@ -535,7 +535,7 @@ fn found<R: Recorder>(
     cap: u64,
     kind: Kind,
 ) -> Result<Found<Depths, R>, SearchFault>
-    requires { IsTargetInRange kind }
+    requires { IsKindInRange kind }
 {
     let numbers = Numbers {
         shift,
@@ -547,7 +547,7 @@ fn found<R: Recorder>(
 
 /// The answer on the numbers.
 fn answered(alloc: Global, shift: u32, cap: u64, kind: Kind) -> Result<Answer<Depths>, SearchFault>
-    requires { IsTargetInRange kind }
+    requires { IsKindInRange kind }
 {
     let Found { answer, logs: _ } = found::<Counts>(alloc, shift, cap, kind)?;
     Ok(answer)

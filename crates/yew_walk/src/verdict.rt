@@ -19,8 +19,8 @@ pub enum Verdict {
 }
 
 /// Decides whether a node is visited or cut off, by one load of the incumbent word: it is cut off exactly where the key
-/// of its bound is at most the word, but the root, which has the empty path, is always visited. A visit offers the key
-/// of its worth. It takes no memory.
+/// of its bound is at most the word, or with a gap at most the word and the gap together where the word is not 0. But the
+/// root, which has the empty path, is always visited. A visit offers the key of its worth. It takes no memory.
 #[inline(always)]
 pub fn consider<P: Problem>(
     problem: &P,
@@ -58,7 +58,7 @@ pub fn judge<P: Problem>(
     let read = keying.held(word);
     if !path.numbers().is_empty() {
         let bound = problem.bound(node);
-        if keying.key(bound) <= word {
+        if keying.key(bound) <= keying.limit(word) {
             return Verdict::Cut { bound, read };
         }
     }

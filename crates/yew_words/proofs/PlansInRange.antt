@@ -2,7 +2,12 @@
 use Rattle.std.proofs.Common.{◌≡◌, ℕ, zero, suc, ◌≤◌, Bool, true, false, List, [], Option, Some, None, refl, sym, ap, subst, ◌∙◌, arith}
 use Rattle.std.specs.Prelude.{IsTrue, IsFalse, IfSome, is_some, option_map, unwrap_or}
 use Rattle.std.proofs.lemmas.Bool.{both_ways}
+use Rattle.std.proofs.lemmas.Option.{none-some}
+use Rattle.yew_words.specs.declared.plan.Job.{Job}
+use Rattle.yew_words.specs.declared.plan.Job.TheVariants as jobs
 use Rattle.yew_words.specs.declared.plan.Made.TheVariants as made
+use Rattle.yew_words.specs.declared.plan.Skeleton.{Skeleton}
+use Rattle.yew_words.specs.declared.plan.Skeleton.TheVariants as skeletons
 use Rattle.yew_words.specs.declared.table.Problem.{Problem}
 use Rattle.yew_words.specs.declared.table.Problem.TheVariants as problems
 use Rattle.yew_words.specs.declared.table.Coordination.{Coordination}
@@ -18,7 +23,8 @@ use Rattle.yew_words.specs.Table.{problem_row, file_count, job_of, takes, suits}
 use Rattle.yew_words.specs.Plans.{Planned, Setting, IsValue, value_said, setting_of, is_given, Values, values_of, number_said, number_or, AreSettings}
 use Rattle.yew_words.specs.Plans.{HasRequired, skeleton_of, workers_of, PlanOf}
 use Rattle.yew_words.specs.Ranges.{coordination_of, head_of, IsFromTo, IsTaken, OneOf, HasRange, HasOptionalRange, HasSkeletonRange, HasSizeRange}
-use Rattle.yew_words.specs.Ranges.{file_count_of, HasSkeletonOf, IsWithin}
+use Rattle.yew_words.specs.Ranges.{head_of_plan, file_count_of, HasSkeletonOf, IsWithin}
+use Rattle.yew_words.proofs.SettingsInOrder.{one_excluded}
 use Rattle.yew_words.proofs.SettingsKept.{found}
 
 -- ---- an option's number
@@ -57,6 +63,29 @@ none_given head given are name other = at (setting_of name given) refl
     at : (o : Option Setting) → setting_of name given ≡ o → number_said (option_map (λ (s : Setting). value_said (takes head s.name) s.value) o) ≡ None
     at None e = refl
     at (Some s) e = let f = found head name [] given s e are in absurd (both_ways (suits head name) other (ap (suits head) f.0 ∙ f.2))
+
+-- a number is that of an option that was given
+number_given : (head : Head) (given : List Setting) (name : OptionName) (n : ℕ) → number_said (values_of head given name) ≡ Some n
+    → IsTrue (is_given given name)
+number_given head given name n e = at (setting_of name given) refl e
+  where
+    at : (o : Option Setting) → setting_of name given ≡ o → number_said (option_map (λ (s : Setting). value_said (takes head s.name) s.value) o) ≡ Some n
+        → IsTrue (is_given given name)
+    at None q h = absurd (none-some n h)
+    at (Some s) q h = ap (λ (o : Option Setting). is_some o) q
+
+number_not_given : (head : Head) (given : List Setting) (name : OptionName) → IsFalse (is_given given name) → number_said (values_of head given name) ≡ None
+number_not_given head given name new = at (setting_of name given) refl
+  where
+    at : (o : Option Setting) → setting_of name given ≡ o → number_said (option_map (λ (s : Setting). value_said (takes head s.name) s.value) o) ≡ None
+    at None q = refl
+    at (Some s) q = absurd (both_ways (is_given given name) new (ap (λ (o : Option Setting). is_some o) q))
+
+-- a gap has no target beside it
+no_target : (head : Head) (given : List Setting) → AreSettings head given → (gap : ℕ) → number_said (values_of head given options.Gap) ≡ Some gap
+    → number_said (values_of head given options.Target) ≡ None
+no_target head given are gap e = number_not_given head given options.Target
+    (one_excluded head [] given are options.Gap options.Target (λ h. let f = h in cc) refl refl (number_given head given options.Gap gap e))
 
 said_or_taken : (low high absent : ℕ) (word : Option Word) → IsValue (Number low high) word
     → IsFromTo low high (unwrap_or (number_said (Some (value_said (Number low high) word))) absent)
@@ -181,8 +210,34 @@ plan_within words plan p =
       workers = subst (λ (h : Head). HasRange h options.Workers 1 (workers_of head v)) head_is (workers_within head given are);
       target = subst (λ (h : Head). HasOptionalRange h options.Target (number_said (v options.Target))) head_is
           (optional_within head given are options.Target);
+      gap = subst (λ (h : Head). HasOptionalRange h options.Gap (number_said (v options.Gap))) head_is
+          (optional_within head given are options.Gap);
+      no_target = no_target head given are;
       genus = subst (λ (h : Head). HasRange h options.Genus 0 (number_or v options.Genus 0)) head_is
           (number_within head given are options.Genus 0 (omega arith));
       size = size_within head given are p.has_required;
       files = p.are_files.count ∙ count_is head;
     })
+
+-- ---- what the range of a gap says
+
+gap_in : (head : Head) (o : Option ℕ) → HasOptionalRange head options.Gap o → IfSome o (λ gap. gap ≤ 1099511627774)
+gap_in head None h = tt
+gap_in head (Some gap) h = at (suits head options.Gap) h
+  where
+    at : (b : Bool) → OneOf b (gap ≤ 1099511627774) (Some gap ≡ None) → gap ≤ 1099511627774
+    at true h = h
+    at false h = absurd (none-some gap (sym h))
+
+-- A gap is at most 2^40 - 2.
+pub gap_below : (plan : Planned) → IsWithin plan → IfSome plan.gap (λ gap. gap ≤ 1099511627774)
+gap_below plan w = gap_in (head_of_plan plan) plan.gap w.gap
+
+not_ordered : (job : Job) (depth : ℕ) (o : Option ℕ) → HasOptionalRange (head_of job (coordination_of (skeletons.Ordered depth))) options.Gap o → o ≡ None
+not_ordered jobs.Knapsack depth o h = h
+not_ordered _ depth o h = h
+
+-- There is none where the skeleton is `ordered`.
+pub no_gap_ordered : (plan : Planned) (depth : ℕ) → IsWithin plan → plan.skeleton ≡ skeletons.Ordered depth → plan.gap ≡ None
+no_gap_ordered plan depth w e =
+    not_ordered plan.job depth plan.gap (subst (λ (s : Skeleton). HasOptionalRange (head_of plan.job (coordination_of s)) options.Gap plan.gap) e w.gap)

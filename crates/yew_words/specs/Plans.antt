@@ -26,6 +26,7 @@ pub record Planned : Type 0 where
   pub files : List Word
   pub workers : ℕ
   pub target : Option ℕ
+  pub gap : Option ℕ
   pub genus : ℕ
   pub audit : Bool
   pub report : Bool
@@ -40,6 +41,7 @@ planned plan = record {
   files = texts plan.files.now;
   workers = plan.workers;
   target = plan.target;
+  gap = plan.gap;
   genus = plan.genus;
   audit = plan.audit;
   report = plan.report;
@@ -150,6 +152,7 @@ plan_of head files said = record {
   files = files;
   workers = workers_of head said;
   target = number_said (said options.Target);
+  gap = number_said (said options.Gap);
   genus = number_or said options.Genus 0;
   audit = has_value said options.Audit;
   report = has_value said options.Report;

@@ -1,5 +1,5 @@
 -- The ranges of a plan's fields: those of the options that they come from, by the table.
-use Rattle.std.specs.Prelude.{◌≡◌, ℕ, zero, suc, ◌≤◌, Bool, true, false, length, Option, None, IfSome}
+use Rattle.std.specs.Prelude.{◌≡◌, ℕ, zero, suc, ◌≤◌, Bool, true, false, length, Option, Some, None, IfSome}
 use Rattle.yew_words.specs.declared.plan.Job.{Job}
 use Rattle.yew_words.specs.declared.plan.Job.TheVariants as jobs
 use Rattle.yew_words.specs.declared.plan.Skeleton.{Skeleton}
@@ -85,12 +85,14 @@ abbrev pub HasSkeletonOf : Job → Skeleton → Type 0
 HasSkeletonOf (jobs.Make kind) skeleton = skeleton ≡ skeletons.Sequential
 HasSkeletonOf _ skeleton = Unit {0}
 
--- Each field is in its range.
+-- Each field is in its range, and beside a gap there is no target.
 pub record IsWithin (plan : Planned) : Type 0 where
   pub of_job : HasSkeletonOf plan.job plan.skeleton
   pub skeleton : HasSkeletonRange (head_of_plan plan) plan.skeleton
   pub workers : HasRange (head_of_plan plan) options.Workers 1 plan.workers
   pub target : HasOptionalRange (head_of_plan plan) options.Target plan.target
+  pub gap : HasOptionalRange (head_of_plan plan) options.Gap plan.gap
+  pub no_target : (gap : ℕ) → plan.gap ≡ Some gap → plan.target ≡ None
   pub genus : HasRange (head_of_plan plan) options.Genus 0 plan.genus
   pub size : HasSizeRange plan.job plan.size
   pub files : length plan.files ≡ file_count_of plan.job

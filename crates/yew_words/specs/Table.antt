@@ -61,6 +61,12 @@ abbrev pub has_target : Head → Bool
 has_target (Search problems.Knapsack coordination) = true
 has_target _ = false
 
+abbrev pub has_gap : Head → Bool
+has_gap (Search problem coordinations.Ordered) = false
+has_gap (Search problems.Knapsack coordination) = true
+has_gap (Search problems.Tsp coordination) = true
+has_gap _ = false
+
 abbrev pub has_genus : Head → Bool
 has_genus (Search problems.Semigroups coordination) = true
 has_genus _ = false
@@ -82,7 +88,8 @@ option_row options.Workers = record { word = codes "--workers"; follows = λ hea
 option_row options.Depth = record { word = codes "--depth"; follows = λ head. Number 1 255; suits = has_depth; excluded_by = [] }
 option_row options.Budget = record { word = codes "--budget"; follows = λ head. Number 1 4294967295; suits = has_budget; excluded_by = [] }
 option_row options.Chunk = record { word = codes "--chunk"; follows = λ head. OneOrAll; suits = has_chunk; excluded_by = [] }
-option_row options.Target = record { word = codes "--target"; follows = λ head. Number 0 1099511627774; suits = has_target; excluded_by = [] }
+option_row options.Target = record { word = codes "--target"; follows = λ head. Number 0 1099511627774; suits = has_target; excluded_by = options.Gap ∷ [] }
+option_row options.Gap = record { word = codes "--gap"; follows = λ head. Number 0 1099511627774; suits = has_gap; excluded_by = options.Target ∷ [] }
 option_row options.Genus = record { word = codes "--genus"; follows = λ head. Number 0 40; suits = has_genus; excluded_by = [] }
 option_row options.Report = record { word = codes "--report"; follows = λ head. Nothing; suits = of_search; excluded_by = [] }
 option_row options.Audit = record { word = codes "--audit"; follows = λ head. Nothing; suits = of_search; excluded_by = [] }
@@ -93,7 +100,7 @@ option_row options.Solve = record { word = codes "--solve"; follows = λ head. N
 -- each of them
 abbrev pub every_option : List OptionName
 every_option =
-    options.Workers ∷ options.Depth ∷ options.Budget ∷ options.Chunk ∷ options.Target ∷ options.Genus
+    options.Workers ∷ options.Depth ∷ options.Budget ∷ options.Chunk ∷ options.Target ∷ options.Gap ∷ options.Genus
     ∷ options.Report ∷ options.Audit ∷ options.Seed ∷ options.Size ∷ options.Solve ∷ []
 
 abbrev pub option_word : OptionName → Word

@@ -21,6 +21,7 @@ pub fn make_plan<'a>(head: Head, files: &'a [String], settings: &Settings) -> Pl
         files,
         workers: workers(head, settings),
         target: settings.number(OptionName::Target),
+        gap: settings.number(OptionName::Gap),
         genus: number(head, settings, OptionName::Genus, 0),
         audit: settings.is_given(OptionName::Audit),
         report: settings.is_given(OptionName::Report),

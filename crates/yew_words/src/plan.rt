@@ -61,6 +61,8 @@ pub struct Plan<'a> {
     pub workers: u32,
     /// The least profit that a knapsack is to reach, at most 2^40-2; `None` asks for the greatest profit.
     pub target: Option<u64>,
+    /// By how much the best may be better than what is answered, at most 2^40-2; `None` asks for the best itself.
+    pub gap: Option<u64>,
     /// The greatest genus that is counted: at most 40.
     pub genus: u32,
     /// Whether the audit is written.

@@ -43,6 +43,7 @@ pub enum OptionName {
     Budget,
     Chunk,
     Target,
+    Gap,
     Genus,
     Report,
     Audit,
@@ -110,6 +111,7 @@ const OPTIONS: &[OptionName] = &[
     OptionName::Budget,
     OptionName::Chunk,
     OptionName::Target,
+    OptionName::Gap,
     OptionName::Genus,
     OptionName::Report,
     OptionName::Audit,
@@ -164,7 +166,22 @@ impl OptionName {
                 word: "--target",
                 follows: Takes::Number(0, (1 << 40) - 2),
                 suits: matches!(head, Head::Search(Problem::Knapsack, _)),
-                excluded_by: &[],
+                excluded_by: &[OptionName::Gap],
+            },
+            OptionName::Gap => Row {
+                word: "--gap",
+                follows: Takes::Number(0, (1 << 40) - 2),
+                suits: matches!(
+                    head,
+                    Head::Search(
+                        Problem::Knapsack | Problem::Tsp,
+                        Coordination::Sequential
+                            | Coordination::Depth
+                            | Coordination::Budget
+                            | Coordination::Steal
+                    )
+                ),
+                excluded_by: &[OptionName::Target],
             },
             OptionName::Genus => Row {
                 word: "--genus",

@@ -1,7 +1,7 @@
 //! Many small trees, made from a seed, searched by crews and judged.
 ghost use Rattle.std.specs.Prelude.{◌≡◌, ◌≤◌, ◌<◌, true, length, IfOk};
 ghost use Rattle.yew_crew.specs.Stations.{IsCoord};
-ghost use Rattle.yew_kinds.specs.Kinds.{IsTargetInRange};
+ghost use Rattle.yew_kinds.specs.Kinds.{IsKindInRange};
 
 use super::allowed;
 use super::increasing::Increasing;
@@ -71,7 +71,7 @@ fn found<R: Threads + Wait + Sync, L: Recorder>(
 ) -> Result<Found<Depths, L>, SearchFault>
     requires workers { (1 ≤ workers) × (workers ≤ 64) }
     requires coord { IsCoord coord }
-    requires target { IsTargetInRange kind }
+    requires range { IsKindInRange kind }
 {
     if tree.parents.is_empty() || tree.parents.len() > 65535 {
         return Err(SearchFault::Memory);
@@ -91,7 +91,7 @@ fn is_searched<R: Threads + Wait + Sync>(
 ) -> Result<bool, SearchFault>
     requires workers { (1 ≤ workers) × (workers ≤ 64) }
     requires coord { IsCoord coord }
-    requires target { IsTargetInRange kind }
+    requires range { IsKindInRange kind }
 {
     let Found { answer, logs } = found::<_, Full>(rt, alloc, tree, kind, coord, workers)?;
     Ok(
