@@ -1,11 +1,11 @@
 -- Keys and held values keep the order of worths.
-use Rattle.std.proofs.Common.{◌≡◌, ℕ, ◌+◌, ◌<◌, ◌≤◌, refl, sym, arith}
+use Rattle.std.proofs.Common.{◌≡◌, ℕ, ◌+◌, ◌<◌, ◌≤◌, ◌^◌, refl, sym, arith}
 use Rattle.std.proofs.lemmas.Bool.Decides.{nat_tests}
 use Rattle.yew_log.specs.Attained.{limit}
 use Rattle.yew_log.specs.HeldValues.{plain, IsUncut}
 use Rattle.yew_walk.specs.declared.keying.Keying.{Keying}
 use Rattle.yew_walk.specs.declared.keying.Keying.TheVariants.{Plain, Ranked, Gap}
-use Rattle.yew_walk.specs.Keys.{key_of, held_of, limit_of, kind_of, gap_in}
+use Rattle.yew_walk.specs.Keys.{IsKeying, key_of, held_of, limit_of, kind_of, gap_in}
 
 -- a key is below another where its worth is
 pub key_of-reflects : (keying : Keying) (a b word : ℕ) → key_of keying a ≤ word → word < key_of keying b → a < b
@@ -80,3 +80,9 @@ pub limit_of-plain : (keying : Keying) (word : ℕ) → kind_of keying ≡ plain
 limit_of-plain Plain word is = sym (limit-none word)
 limit_of-plain (Ranked rank) word is = absurd (cc)
 limit_of-plain (Gap gap) word is = refl
+
+-- the key of a worth or a bound is a word
+pub key_of-small : (keying : Keying) (worth : ℕ) → IsKeying keying → worth < 2 ^ 40 → key_of keying worth ≤ 18446744073709551615
+key_of-small Plain worth is small = omega (arith, small)
+key_of-small (Ranked rank) worth is small = omega (arith, is, small)
+key_of-small (Gap gap) worth is small = omega (arith, small)
