@@ -1,5 +1,5 @@
 -- The best visit of the one sequential log: the greatest worth that it visits, with the first path that has it.
-use Rattle.std.proofs.Common.{◌≡◌, ◌≢◌, ℕ, zero, suc, ◌<◌, ◌≤◌, ◌⊎◌, List, [], ◌∷◌, ◌++◌, max, Bool, true, false, Option, Some, None, ◌==◌, nat_lt, if◌then◌else◌, refl, ap, ap₂, sym, subst, ◌∙◌, inl, inr, append_assoc, append-nil, arith}
+use Rattle.std.proofs.Common.{◌≡◌, ℕ, zero, suc, ◌<◌, ◌≤◌, ◌⊎◌, List, [], ◌∷◌, ◌++◌, max, Bool, true, false, Option, Some, None, ◌==◌, nat_lt, if◌then◌else◌, refl, ap, ap₂, sym, subst, ◌∙◌, inl, inr, append_assoc, append-nil, arith}
 use Rattle.std.specs.List.{AllByRecursion, Contains, flat_map}
 use Rattle.std.proofs.lemmas.Bool.Decides.{nat_tests}
 use Rattle.std.proofs.lemmas.List.Elements.{Contains-append_left}
@@ -12,8 +12,8 @@ use Rattle.yew_laws.specs.SearchTree.{SearchTree, below, tree_paths}
 use Rattle.yew_laws.specs.Tree.{IsRanked, IsBounded}
 use Rattle.yew_laws.proofs.Members.{AllByRecursion-append, Contains-head, Contains-tail}
 use Rattle.yew_laws.proofs.PathTests.{suc_not_zero}
-use Rattle.yew_log.specs.Attained.{Attained, limit}
-use Rattle.yew_log.specs.Notes.{Note, taken, visited, cut, spawned, handed, ended, Judgement, judgement, judgement_in, visits, cuts, paths, values, maximum, visited_paths, cut_paths, sent_paths}
+use Rattle.yew_log.specs.Attained.{Attained}
+use Rattle.yew_log.specs.Notes.{Note, taken, visited, cut, spawned, handed, ended, Judgement, judgement, judgement_in, visits, cuts, paths, values, maximum, visited_paths, cut_paths}
 use Rattle.yew_log.specs.Places.{AtEach}
 use Rattle.yew_log.specs.SeqLog.{visited_worth, visit_notes, seq_log}
 use Rattle.yew_log.proofs.Growth.{worths-append}
@@ -22,7 +22,6 @@ use Rattle.yew_walk.specs.declared.keying.Keying.TheVariants.{Plain}
 use Rattle.yew_walk.specs.Answers.{IsNear}
 use Rattle.yew_walk.specs.FirstFound.{first_visit, found_worth, found_path}
 use Rattle.yew_walk.specs.Hands.{numbers_of, best_after}
-use Rattle.yew_walk.specs.Keys.{answer_key}
 use Rattle.yew_walk.proofs.BestFinds.{nothing, best_after-best}
 use Rattle.yew_walk.proofs.BestVisits.{answer_key-plain, best_after-worth, best_after-seq_log}
 use Rattle.yew_walk.proofs.NearAnswers.{best-near}

@@ -1,4 +1,4 @@
-use Rattle.std.proofs.Common.{ℕ, ◌<◌, ◌∙◌, sym, ap, ap₂, inl, inr, arith}
+use Rattle.std.proofs.Common.{ℕ, ◌∙◌, sym, ap, ap₂, inl, inr, arith}
 use Rattle.std.proofs.lemmas.List.{nil_from_length}
 use Rattle.yew_laws.proofs.PathTests.{nat-is}
 use Rattle.yew_best.specs.Seats.{BestId, SeatView}
