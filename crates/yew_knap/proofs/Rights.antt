@@ -9,7 +9,7 @@ use Rattle.yew_knap.specs.Answers.{knapsack_tree}
 use Rattle.yew_knap.specs.Instance.{Instance, IsWithinLimits}
 use Rattle.yew_knap.specs.Nodes.{chosen_of, worth_of, IsNode}
 use Rattle.yew_knap.specs.Packings.{profit_of, IsBestProfit}
-use Rattle.yew_knap.specs.Texts.{best_lines, yes_lines, no_line, IsBestText, IsYesText, IsNoText}
+use Rattle.yew_knap.specs.Texts.{best_lines, near_lines, yes_lines, no_line, IsBestText, IsNearText, IsYesText, IsNoText}
 use Rattle.yew_knap.proofs.Amounts.{node-packed}
 use Rattle.yew_knap.proofs.Packs.{tree-packs}
 
@@ -25,6 +25,21 @@ module _ (instance : Instance) (limits : IsWithinLimits instance) where
         packs = packed.packs;
         is_best = subst (IsBestProfit instance) profit (tree-packs instance limits).best;
         text_is = text_is ∙ ap (λ p. best_lines p (chosen_of instance node)) own;
+      }
+
+  pub near-right : (node : KnapNode) → IsNode instance node → (worth gap : ℕ) → worth ≡ worth_of instance node → (text : List ℕ)
+      → text ≡ near_lines (worth - 1) gap (chosen_of instance node) → greatest (knapsack_tree instance) ≤ worth + gap → IsNearText instance gap text
+  near-right node sound worth gap is text text_is near =
+      let packed = node-packed instance node sound in
+      let w = packed.worth in
+      let own : worth - 1 ≡ profit_of instance (chosen_of instance node) = omega (arith, w, is) in
+      record {
+        chosen = chosen_of instance node;
+        packs = packed.packs;
+        best = greatest (knapsack_tree instance) - 1;
+        is_best = (tree-packs instance limits).best;
+        within = omega (arith, w, is, near);
+        text_is = text_is ∙ ap (λ p. near_lines p gap (chosen_of instance node)) own;
       }
 
   pub yes-right : (node : KnapNode) → IsNode instance node → (target : ℕ) → target + 1 ≤ worth_of instance node → (text : List ℕ) → text ≡ yes_lines (chosen_of instance node) → IsYesText instance target text

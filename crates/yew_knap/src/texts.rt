@@ -7,7 +7,8 @@ ghost use Rattle.yew_laws.specs.Greatest.{greatest, Reach};
 ghost use Rattle.yew_knap.specs.Answers.{knapsack_tree};
 ghost use Rattle.yew_knap.specs.ItemSets.{has_item};
 ghost use Rattle.yew_knap.specs.Nodes.{chosen_of, root_of, worth_of, IsNode};
-ghost use Rattle.yew_knap.specs.Texts.{items_line, best_lines, yes_lines, no_line, IsBestText, IsYesText, IsNoText};
+ghost use Rattle.yew_knap.specs.Texts.{items_line, best_lines, near_lines, yes_lines, no_line};
+ghost use Rattle.yew_knap.specs.Texts.{IsBestText, IsNearText, IsYesText, IsNoText};
 
 use crate::item_sets::ItemSet;
 use crate::knapsack::Knapsack;
@@ -44,6 +45,28 @@ impl Knapsack {
     {
         let mut text = Vec::new(alloc);
         push_numbers_line(&mut text, b"best", &[worth - 1])?;
+        push_items(&mut text, &node.items(), self.items().len() as u32)?;
+        Ok(text)
+    }
+
+    /// The text of a profit with a permitted gap: the line `found P`, the line `within` with the gap, and the line `items` with the
+    /// numbers of the chosen items, rising.
+    ///
+    /// It takes a node with its worth, which is 1 more than its profit P, and by how much the best profit may exceed it.
+    ///
+    /// # Errors
+    ///
+    /// `Memory` where the text finds no room.
+    pub fn near_text(&self, alloc: Global, worth: u64, gap: u64, node: &KnapNode) -> Result<Vec<u8>, Memory>
+        requires root { IsNode self.now (root_of self.now) }
+        requires node { IsNode self.now node.now }
+        requires worth { worth ≡ worth_of self.now node.now }
+        ensures text { IfOk result (λ text. text.items ≡ near_lines (worth - 1) gap (chosen_of self.now node.now)) }
+        ensures right { IfOk result (λ text. greatest (knapsack_tree self.now) ≤ worth + gap → IsNearText self.now gap text.items) }
+    {
+        let mut text = Vec::new(alloc);
+        push_numbers_line(&mut text, b"found", &[worth - 1])?;
+        push_numbers_line(&mut text, b"within", &[gap])?;
         push_items(&mut text, &node.items(), self.items().len() as u32)?;
         Ok(text)
     }

@@ -1,11 +1,11 @@
-//! The text of the answer.
+//! The texts of answers.
 
-ghost use Rattle.std.specs.Prelude.{◌≡◌, ◌-◌, ◌≤◌, ◌^◌, ◌++◌, ◌∷◌, [], codes, IfOk, OnOk};
+ghost use Rattle.std.specs.Prelude.{◌≡◌, ◌+◌, ◌-◌, ◌≤◌, ◌^◌, ◌++◌, ◌∷◌, [], codes, IfOk, OnOk};
 ghost use Rattle.yew_laws.specs.Greatest.{greatest};
 ghost use Rattle.yew_lines.specs.Spelling.{numbers_line};
 ghost use Rattle.yew_tsp.specs.Answers.{tours_tree};
 ghost use Rattle.yew_tsp.specs.Nodes.{cities_of, root_of, worth_of, IsNode};
-ghost use Rattle.yew_tsp.specs.Texts.{best_lines, IsBestText};
+ghost use Rattle.yew_tsp.specs.Texts.{best_lines, near_lines, IsBestText, IsNearText};
 
 use crate::nodes::TourNode;
 use crate::problem::WHOLE;
@@ -40,6 +40,30 @@ impl Tours {
     {
         let mut text = Vec::new(alloc);
         push_numbers_line(&mut text, b"best", &[WHOLE - worth])?;
+        push_cities(&mut text, &node.cities[..node.steps as usize], node.last)?;
+        Ok(text)
+    }
+
+    /// The text of a tour with a permitted gap: the line `found L`, the line `within` with the gap, and the line `tour` with the cities
+    /// in order from city 1 on.
+    ///
+    /// It takes a node with its worth, which is at least 1: that of a list of all cities, 2^37 less the length L. The gap is by how
+    /// much this length may exceed the least.
+    ///
+    /// # Errors
+    ///
+    /// `Memory` where the text finds no room.
+    pub fn near_text(&self, alloc: Global, worth: u64, gap: u64, node: &TourNode) -> Result<Vec<u8>, Memory>
+        requires root { IsNode self.now (root_of self.now) }
+        requires node { IsNode self.now node.now }
+        requires worth { worth ≡ worth_of self.now node.now }
+        requires some { 1 ≤ worth }
+        ensures text { IfOk result (λ text. text.items ≡ near_lines (2 ^ 37 - worth) gap (cities_of node.now)) }
+        ensures right { IfOk result (λ text. greatest (tours_tree self.now) ≤ worth + gap → IsNearText self.now gap text.items) }
+    {
+        let mut text = Vec::new(alloc);
+        push_numbers_line(&mut text, b"found", &[WHOLE - worth])?;
+        push_numbers_line(&mut text, b"within", &[gap])?;
         push_cities(&mut text, &node.cities[..node.steps as usize], node.last)?;
         Ok(text)
     }

@@ -3,7 +3,11 @@ use Rattle.std.proofs.Common.{◌≡◌, ℕ, zero, suc, ◌≤◌, Bool, true, 
 use Rattle.std.specs.Prelude.{IsTrue, IsFalse, IfSome, is_some, option_map, unwrap_or}
 use Rattle.std.proofs.lemmas.Bool.{both_ways}
 use Rattle.std.proofs.lemmas.Option.{none-some}
+use Rattle.yew_words.specs.declared.plan.Job.{Job}
+use Rattle.yew_words.specs.declared.plan.Job.TheVariants as jobs
 use Rattle.yew_words.specs.declared.plan.Made.TheVariants as made
+use Rattle.yew_words.specs.declared.plan.Skeleton.{Skeleton}
+use Rattle.yew_words.specs.declared.plan.Skeleton.TheVariants as skeletons
 use Rattle.yew_words.specs.declared.table.Problem.{Problem}
 use Rattle.yew_words.specs.declared.table.Problem.TheVariants as problems
 use Rattle.yew_words.specs.declared.table.Coordination.{Coordination}
@@ -19,7 +23,7 @@ use Rattle.yew_words.specs.Table.{problem_row, file_count, job_of, takes, suits}
 use Rattle.yew_words.specs.Plans.{Planned, Setting, IsValue, value_said, setting_of, is_given, Values, values_of, number_said, number_or, AreSettings}
 use Rattle.yew_words.specs.Plans.{HasRequired, skeleton_of, workers_of, PlanOf}
 use Rattle.yew_words.specs.Ranges.{coordination_of, head_of, IsFromTo, IsTaken, OneOf, HasRange, HasOptionalRange, HasSkeletonRange, HasSizeRange}
-use Rattle.yew_words.specs.Ranges.{file_count_of, HasSkeletonOf, IsWithin}
+use Rattle.yew_words.specs.Ranges.{head_of_plan, file_count_of, HasSkeletonOf, IsWithin}
 use Rattle.yew_words.proofs.SettingsInOrder.{one_excluded}
 use Rattle.yew_words.proofs.SettingsKept.{found}
 
@@ -214,3 +218,26 @@ plan_within words plan p =
       size = size_within head given are p.has_required;
       files = p.are_files.count ∙ count_is head;
     })
+
+-- ---- what the range of a gap says
+
+gap_in : (head : Head) (o : Option ℕ) → HasOptionalRange head options.Gap o → IfSome o (λ gap. gap ≤ 1099511627774)
+gap_in head None h = tt
+gap_in head (Some gap) h = at (suits head options.Gap) h
+  where
+    at : (b : Bool) → OneOf b (gap ≤ 1099511627774) (Some gap ≡ None) → gap ≤ 1099511627774
+    at true h = h
+    at false h = absurd (none-some gap (sym h))
+
+-- A gap is at most 2^40 - 2.
+pub gap_below : (plan : Planned) → IsWithin plan → IfSome plan.gap (λ gap. gap ≤ 1099511627774)
+gap_below plan w = gap_in (head_of_plan plan) plan.gap w.gap
+
+not_ordered : (job : Job) (depth : ℕ) (o : Option ℕ) → HasOptionalRange (head_of job (coordination_of (skeletons.Ordered depth))) options.Gap o → o ≡ None
+not_ordered jobs.Knapsack depth o h = h
+not_ordered _ depth o h = h
+
+-- There is none where the skeleton is `ordered`.
+pub no_gap_ordered : (plan : Planned) (depth : ℕ) → IsWithin plan → plan.skeleton ≡ skeletons.Ordered depth → plan.gap ≡ None
+no_gap_ordered plan depth w e =
+    not_ordered plan.job depth plan.gap (subst (λ (s : Skeleton). HasOptionalRange (head_of plan.job (coordination_of s)) options.Gap plan.gap) e w.gap)
