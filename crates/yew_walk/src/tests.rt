@@ -1,4 +1,4 @@
-ghost use Rattle.std.specs.Prelude.{◌≡◌, ◌<◌, ◌^◌, ◌++◌, OnOk, OnErr};
+ghost use Rattle.std.specs.Prelude.{◌≡◌, ◌<◌, ◌≤◌, ◌^◌, ◌++◌, OnOk, OnErr};
 ghost use Rattle.std.specs.List.{AllByRecursion};
 ghost use Rattle.yew_kinds.specs.Kinds.{IsKindInRange};
 ghost use Rattle.yew_laws.specs.Bag.{SameBag};
@@ -496,6 +496,99 @@ done
     Ok(())
 }
 
+/// A walk with a gap, where the word holds a worth.
+fn with_gap(alloc: Global, gap: u64, offered: u64) -> Result<Outcome, Memory>
+    requires { gap ≤ 1099511627774 }
+{
+    let numbers = second_is_best(NEVER);
+    let mut outlet = Outbox::new(alloc, &numbers);
+    let mut policy = Plain::new();
+    walked(
+        alloc,
+        &numbers,
+        Keying::Gap(gap),
+        offered,
+        &mut policy,
+        &mut outlet,
+    )
+}
+
+// The bounds are 4: they are above 3, but not above 3 with a gap of 1.
+#[test]
+fn cuts_within_a_gap(rt: HostRuntime) -> Result<(), Fail> {
+    let none = with_gap(rt.alloc(), 0, 3)?;
+    let log = "audit 1
+worker 1
+take /
+visit / 1 3
+visit /0 0 3
+end /0
+visit /1 4 3
+cut /1/0 4 4
+end /1
+cut /2 4 4
+cut /3 4 4
+end /
+done
+";
+    assert!(rt; none.ended.is_ok());
+    assert_eq!(rt; none.text.as_slice(), log.as_bytes());
+    assert_eq!(rt; none.hand.key, 4);
+    assert_eq!(rt; none.hand.path.numbers(), [1].as_slice());
+    let one = with_gap(rt.alloc(), 1, 3)?;
+    let log = "audit 1
+worker 1
+take /
+visit / 1 3
+cut /0 4 3
+cut /1 4 3
+cut /2 4 3
+cut /3 4 3
+end /
+done
+";
+    assert!(rt; one.ended.is_ok());
+    assert_eq!(rt; one.text.as_slice(), log.as_bytes());
+    assert_eq!(rt; one.hand.key, 1);
+    assert!(rt; one.hand.path.numbers().is_empty());
+    Ok(())
+}
+
+// The root is no answer, so its first child is visited, however great the gap is.
+#[test]
+fn permits_no_gap_where_nothing_is_held(rt: HostRuntime) -> Result<(), Fail> {
+    let numbers = Numbers {
+        shift: 0,
+        cap: 4,
+        refused: NEVER,
+    };
+    let mut outlet = Outbox::new(rt.alloc(), &numbers);
+    let mut policy = Plain::new();
+    let found = walked(
+        rt.alloc(),
+        &numbers,
+        Keying::Gap(1099511627774),
+        0,
+        &mut policy,
+        &mut outlet,
+    )?;
+    let log = "audit 1
+worker 1
+take /
+visit / 0 0
+visit /0 4 0
+end /0
+cut /1 4 4
+cut /2 4 4
+cut /3 4 4
+end /
+done
+";
+    assert!(rt; found.ended.is_ok());
+    assert_eq!(rt; found.text.as_slice(), log.as_bytes());
+    Ok(())
+}
+
 // Each row has the number that is refused, and how many lines of the whole log come before it.
 #[test]
 fn stops_without_memory(rt: HostRuntime) -> Result<(), Fail> {
@@ -609,6 +702,121 @@ fn finds_best(rt: HostRuntime) -> Result<(), Fail> {
             Answer::Best { worth, path } => {
                 assert_eq!(rt; worth, greatest, "at {shift}");
                 assert!(rt; is_path(&path, first), "at {shift}");
+            }
+            _ => assert!(rt; false),
+        }
+    }
+    Ok(())
+}
+
+/// The numbers with their paths, in preorder.
+const PREORDER: [(u32, &[u32]); 16] = [
+    (0, &[]),
+    (4, &[0]),
+    (3, &[1]),
+    (4, &[1, 0]),
+    (2, &[2]),
+    (4, &[2, 0]),
+    (3, &[2, 1]),
+    (4, &[2, 1, 0]),
+    (1, &[3]),
+    (4, &[3, 0]),
+    (3, &[3, 1]),
+    (4, &[3, 1, 0]),
+    (2, &[3, 2]),
+    (4, &[3, 2, 0]),
+    (3, &[3, 2, 1]),
+    (4, &[3, 2, 1, 0]),
+];
+
+/// What one worker finds in preorder with a gap: the greatest worth that it visits, and the first path that has it.
+#[derive(Drop)]
+struct Visited {
+    worth: u64,
+    path: &'static [u32],
+    visited: u64,
+    cut: u64,
+}
+
+/// Goes through the numbers in preorder, and leaves out all that lies below a node that is cut.
+fn slowly(shift: u32, cap: u64, gap: u64) -> Visited {
+    let mut best = Visited {
+        worth: 0,
+        path: &[],
+        visited: 0,
+        cut: 0,
+    };
+    let mut cut_at = usize::MAX;
+    for (node, path) in PREORDER {
+        if path.len() > cut_at {
+            continue;
+        }
+        cut_at = usize::MAX;
+        if !path.is_empty() && best.worth > 0 && best.worth.saturating_add(gap) >= 4 {
+            best.cut = best.cut.saturating_add(1);
+            cut_at = path.len();
+            continue;
+        }
+        best.visited = best.visited.saturating_add(1);
+        let worth = cap.min((node as u64 + shift as u64) % 5);
+        if worth > best.worth {
+            best.worth = worth;
+            best.path = path;
+        }
+    }
+    best
+}
+
+/// Whether a search finds with a gap what the slow one finds.
+fn is_found(alloc: Global, shift: u32, cap: u64, gap: u64) -> Result<bool, SearchFault>
+    requires { gap ≤ 1099511627774 }
+{
+    let slow = slowly(shift, cap, gap);
+    let first = if slow.worth == 0 {
+        None
+    } else {
+        Some(slow.path)
+    };
+    let Found { answer, logs } = found::<Counts>(alloc, shift, cap, Kind::Near(gap))?;
+    let is_answer = match answer {
+        Answer::Best { worth, path } => worth == slow.worth && is_path(&path, first),
+        _ => false,
+    };
+    Ok(is_answer && logs.len() == 1 && logs[0].totals() == totals(slow.visited, slow.cut))
+}
+
+// Each shift, cap and gap from 0 on.
+#[test]
+fn finds_near(rt: HostRuntime) -> Result<(), Fail> {
+    for case in 0..175u32 {
+        let shift = case % 5;
+        let cap = (case / 5 % 5) as u64;
+        let gap = (case / 25) as u64;
+        assert!(rt;
+            is_found(rt.alloc(), shift, cap, gap)?,
+            "at {shift} {cap} {gap}"
+        );
+    }
+    assert!(rt; is_found(rt.alloc(), 0, 4, 1099511627774)?);
+    Ok(())
+}
+
+// The root has worth 2, and the best node 4, as each bound: a gap of 2 permits to cut all but the root.
+#[test]
+fn stays_within_a_gap(rt: HostRuntime) -> Result<(), Fail> {
+    let rows: [(u64, u64, Option<&[u32]>); 5] = [
+        (0, 4, Some(&[2])),
+        (1, 4, Some(&[2])),
+        (2, 2, Some(&[])),
+        (3, 2, Some(&[])),
+        (1099511627774, 2, Some(&[])),
+    ];
+    for (gap, near, first) in rows {
+        assert!(rt; gap <= 1099511627774);
+        match answered(rt.alloc(), 2, 4, Kind::Near(gap))? {
+            Answer::Best { worth, path } => {
+                assert_eq!(rt; worth, near, "at {gap}");
+                assert!(rt; is_path(&path, first), "at {gap}");
             }
             _ => assert!(rt; false),
         }
