@@ -34,6 +34,7 @@ _yew() {
             --budget) words=(1 4294967295) ;;
             --chunk) words=(one all) ;;
             --target) words=(0 1099511627774) ;;
+            --gap) words=(0 1099511627774) ;;
             --genus) words=(0 40) ;;
             --seed) words=(0 18446744073709551615) ;;
             --size)
@@ -58,11 +59,17 @@ _yew() {
                     *:budget) options+=(--workers --budget) ;;
                     *:steal) options+=(--workers --chunk) ;;
                 esac
-                # (each option stands at most once)
+                case $job:$second in
+                    *:ordered) ;;
+                    knapsack:* | tsp:*) options+=(--gap) ;;
+                esac
+                # (each option stands at most once, and of a target and a gap one)
                 for word in "${options[@]}"; do
                     given=
                     for ((place = 3 + files; place < COMP_CWORD; place++)); do
-                        [ "${COMP_WORDS[place]}" = "$word" ] && given=yes
+                        case $word:${COMP_WORDS[place]} in
+                            "$word:$word" | --target:--gap | --gap:--target) given=yes ;;
+                        esac
                     done
                     [ -n "$given" ] || words+=("$word")
                 done

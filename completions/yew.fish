@@ -30,7 +30,7 @@ function __yew_due
         echo file
     else
         switch $words[-1]
-            case --workers --depth --budget --chunk --target --genus --seed --size
+            case --workers --depth --budget --chunk --target --gap --genus --seed --size
                 printf '%s\n' $words[-1]
             case '*'
                 echo option
@@ -57,6 +57,13 @@ function __yew_option
     __yew_is_due option; or return 1
     set -l words (commandline -opc)
     contains -- $argv[1] $words; and return 1
+    # (of a target and a gap one)
+    switch $argv[1]
+        case --target
+            contains -- --gap $words; and return 1
+        case --gap
+            contains -- --target $words; and return 1
+    end
     set -l options
     switch $words[2]
         case make
@@ -79,6 +86,10 @@ function __yew_option
             set -a options --workers --budget
         case '*:steal'
             set -a options --workers --chunk
+    end
+    switch $words[2]:$words[3]
+        case knapsack:sequential knapsack:depth knapsack:budget knapsack:steal tsp:sequential tsp:depth tsp:budget tsp:steal
+            set -a options --gap
     end
     contains -- $argv[1] $options
 end
@@ -107,6 +118,7 @@ complete -c yew -n '__yew_option --depth' -a --depth -d 'depth, 1 to 255'
 complete -c yew -n '__yew_option --budget' -a --budget -d 'backtracks, 1 to 4294967295'
 complete -c yew -n '__yew_option --chunk' -a --chunk -d 'what is given, one or all'
 complete -c yew -n '__yew_option --target' -a --target -d 'profit, 0 to 1099511627774'
+complete -c yew -n '__yew_option --gap' -a --gap -d 'permitted gap, 0 to 1099511627774'
 complete -c yew -n '__yew_option --genus' -a --genus -d 'genus, 0 to 40'
 complete -c yew -n '__yew_option --report' -a --report -d 'totals behind the answer'
 complete -c yew -n '__yew_option --audit' -a --audit -d 'what became of every node'
@@ -120,6 +132,7 @@ complete -c yew -n '__yew_value --depth' -a '1 255' -d 'depth, 1 to 255'
 complete -c yew -n '__yew_value --budget' -a '1 4294967295' -d 'backtracks, 1 to 4294967295'
 complete -c yew -n '__yew_value --chunk' -a 'one all' -d 'what is given, one or all'
 complete -c yew -n '__yew_value --target' -a '0 1099511627774' -d 'profit, 0 to 1099511627774'
+complete -c yew -n '__yew_value --gap' -a '0 1099511627774' -d 'permitted gap, 0 to 1099511627774'
 complete -c yew -n '__yew_value --genus' -a '0 40' -d 'genus, 0 to 40'
 complete -c yew -n '__yew_value --seed' -a '0 18446744073709551615' -d 'seed, 0 to 18446744073709551615'
 complete -c yew -n '__yew_value --size knapsack' -a '1 256' -d 'items, 1 to 256'

@@ -2,7 +2,8 @@
 //!
 //! [`read`] makes the problem of a file. A node of its tree is a set of items that can be carried, its worth is the total
 //! profit and 1, and its bound is Dantzig's. The sets of the nodes are all sets that can be carried, each once, so the
-//! greatest worth of the tree tells the best profit. [`Knapsack::best_text`] and [`Knapsack::reach_text`] spell answers.
+//! greatest worth of the tree tells the best profit. [`Knapsack::best_text`], [`Knapsack::near_text`] and
+//! [`Knapsack::reach_text`] spell answers.
 #![tactic(auto)]
 
 mod bounds;

@@ -157,6 +157,11 @@ fn spells_answers(rt: HostRuntime) -> Result<(), Fail> {
             assert_eq!(rt; worth, 91);
             let best = problem.best_text(rt.alloc(), worth, &node)?;
             assert_eq!(rt; best.as_slice(), b"best 90\nitems 2 4\n".as_slice());
+            let near = problem.near_text(rt.alloc(), worth, 54, &node)?;
+            assert_eq!(rt;
+                near.as_slice(),
+                b"found 90\nwithin 54\nitems 2 4\n".as_slice()
+            );
             let yes = problem.reach_text(rt.alloc(), Some(&node))?;
             assert_eq!(rt; yes.as_slice(), b"yes\nitems 2 4\n".as_slice());
         }
@@ -166,6 +171,8 @@ fn spells_answers(rt: HostRuntime) -> Result<(), Fail> {
     let root = none.root(rt.alloc())?;
     let best = none.best_text(rt.alloc(), none.worth(&root), &root)?;
     assert_eq!(rt; best.as_slice(), b"best 0\nitems\n".as_slice());
+    let near = none.near_text(rt.alloc(), none.worth(&root), 0, &root)?;
+    assert_eq!(rt; near.as_slice(), b"found 0\nwithin 0\nitems\n".as_slice());
     Ok(())
 }
 

@@ -57,7 +57,13 @@ impl Knapsack {
     /// # Errors
     ///
     /// `Memory` where the text finds no room.
-    pub fn near_text(&self, alloc: Global, worth: u64, gap: u64, node: &KnapNode) -> Result<Vec<u8>, Memory>
+    pub fn near_text(
+        &self,
+        alloc: Global,
+        worth: u64,
+        gap: u64,
+        node: &KnapNode,
+    ) -> Result<Vec<u8>, Memory>
         requires root { IsNode self.now (root_of self.now) }
         requires node { IsNode self.now node.now }
         requires worth { worth ≡ worth_of self.now node.now }

@@ -5,7 +5,7 @@
 //! children append each city that is not in the list. A list of all cities is a tour, and its worth is 2^37 less its
 //! length; other lists have no worth. The bound takes for each city from which no step was taken the least weight from it
 //! to another city. The whole lists of the tree are all tours, each once, so its greatest worth tells the least length.
-//! [`Tours::best_text`] spells the answer.
+//! [`Tours::best_text`] and [`Tours::near_text`] spell answers.
 #![tactic(auto)]
 
 mod header;

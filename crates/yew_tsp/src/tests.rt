@@ -316,8 +316,13 @@ fn judges_lists(rt: HostRuntime) -> Result<(), Fail> {
     Ok(())
 }
 
-/// The text of the node at a path, where it has some worth.
-fn text_at(alloc: Global, problem: &Tours, numbers: &[u32]) -> Result<Option<Vec<u8>>, Memory>
+/// The text of the node at a path, where it has some worth; with a gap, that of a tour with it.
+fn text_at(
+    alloc: Global,
+    problem: &Tours,
+    numbers: &[u32],
+    gap: Option<u64>,
+) -> Result<Option<Vec<u8>>, Memory>
     requires { IsNode problem.now (root_of problem.now) }
 {
     let Some(node) = node_at(alloc, problem, numbers)? else {
@@ -327,21 +332,34 @@ fn text_at(alloc: Global, problem: &Tours, numbers: &[u32]) -> Result<Option<Vec
     if worth == 0 {
         return Ok(None);
     }
-    Ok(Some(problem.best_text(alloc, worth, &node)?))
+    let text = match gap {
+        Some(gap) => problem.near_text(alloc, worth, gap, &node)?,
+        None => problem.best_text(alloc, worth, &node)?,
+    };
+    Ok(Some(text))
 }
 
 #[test]
 fn spells_answers(rt: HostRuntime) -> Result<(), Fail> {
     let four = read(rt.alloc(), FULL.as_bytes())?;
-    match text_at(rt.alloc(), &four, &[0, 1, 0])? {
+    match text_at(rt.alloc(), &four, &[0, 1, 0], None)? {
         Some(text) => {
             assert_eq!(rt; text.as_slice(), b"best 80\ntour 1 2 4 3\n".as_slice());
         }
         None => assert!(rt; false),
     }
-    assert!(rt; text_at(rt.alloc(), &four, &[0, 1])?.is_none());
+    match text_at(rt.alloc(), &four, &[0, 1, 0], Some(15))? {
+        Some(text) => {
+            assert_eq!(rt;
+                text.as_slice(),
+                b"found 80\nwithin 15\ntour 1 2 4 3\n".as_slice()
+            );
+        }
+        None => assert!(rt; false),
+    }
+    assert!(rt; text_at(rt.alloc(), &four, &[0, 1], None)?.is_none());
     let two = read(rt.alloc(), TWO.as_bytes())?;
-    match text_at(rt.alloc(), &two, &[0])? {
+    match text_at(rt.alloc(), &two, &[0], None)? {
         Some(text) => assert_eq!(rt; text.as_slice(), b"best 7\ntour 1 2\n".as_slice()),
         None => assert!(rt; false),
     }

@@ -24,6 +24,7 @@ fn plain() -> Plan<'static> {
         files: &[],
         workers: 1,
         target: None,
+        gap: None,
         genus: 0,
         audit: false,
         report: false,
@@ -51,6 +52,7 @@ fn expect_plan(rt: &impl Abort, line: &str, words: &[String], files: &[&str], wa
     assert_eq!(rt; plan.skeleton, want.skeleton, "skeleton: {line}");
     assert_eq!(rt; plan.workers, want.workers, "workers: {line}");
     assert_eq!(rt; plan.target, want.target, "target: {line}");
+    assert_eq!(rt; plan.gap, want.gap, "gap: {line}");
     assert_eq!(rt; plan.genus, want.genus, "genus: {line}");
     assert_eq!(rt; plan.audit, want.audit, "audit: {line}");
     assert_eq!(rt; plan.report, want.report, "report: {line}");
@@ -80,6 +82,30 @@ fn plans_of_searches(rt: HostRuntime) -> Result<(), Fail> {
                 target: Some(1099511627774),
                 audit: true,
                 ..plain()
+            },
+        ),
+        (
+            "knapsack sequential k1 --gap 60 --audit",
+            Plan {
+                gap: Some(60),
+                audit: true,
+                ..plain()
+            },
+        ),
+        (
+            "tsp budget k1 --gap 0",
+            Plan {
+                job: Job::Tsp,
+                gap: Some(0),
+                ..crew(Skeleton::Budget(1000))
+            },
+        ),
+        (
+            "knapsack steal k1 --workers 2 --gap 1099511627774",
+            Plan {
+                workers: 2,
+                gap: Some(1099511627774),
+                ..crew(Skeleton::Steal { all: false })
             },
         ),
         ("knapsack depth k1", crew(Skeleton::Depth(2))),
@@ -282,6 +308,22 @@ fn names_of_options(rt: HostRuntime) -> Result<(), Fail> {
         ("knapsack steal k1 --budget 2", 4, UsageKind::NotHere),
         ("knapsack ordered k1 --chunk one", 4, UsageKind::NotHere),
         ("tsp sequential t1 --target 2", 4, UsageKind::NotHere),
+        ("knapsack ordered k1 --gap 2", 4, UsageKind::NotHere),
+        ("tsp ordered t1 --gap 2", 4, UsageKind::NotHere),
+        ("subgraph steal g1 g2 --gap 2", 5, UsageKind::NotHere),
+        ("semigroups sequential --gap 2", 3, UsageKind::NotHere),
+        ("make tsp --gap 2", 3, UsageKind::NotHere),
+        (
+            "knapsack sequential k1 --target 5 --gap 2",
+            6,
+            UsageKind::NotHere,
+        ),
+        (
+            "knapsack depth k1 --gap 2 --report --target 5",
+            7,
+            UsageKind::NotHere,
+        ),
+        ("tsp depth t1 --gap 2 --gap 2", 6, UsageKind::Repeated),
         ("knapsack sequential k1 --genus 5", 4, UsageKind::NotHere),
         ("knapsack sequential k1 --seed 5", 4, UsageKind::NotHere),
         ("knapsack sequential k1 --size 5", 4, UsageKind::NotHere),
@@ -346,6 +388,13 @@ fn values_of_options(rt: HostRuntime) -> Result<(), Fail> {
             5,
             UsageKind::OutOfRange,
         ),
+        (
+            "tsp sequential t1 --gap 1099511627775",
+            5,
+            UsageKind::OutOfRange,
+        ),
+        ("tsp sequential t1 --gap", 5, UsageKind::Missing),
+        ("tsp sequential t1 --gap 1%", 5, UsageKind::NotNumber),
         ("semigroups sequential --genus 41", 4, UsageKind::OutOfRange),
         (
             "semigroups depth --depth 0 --nothing",

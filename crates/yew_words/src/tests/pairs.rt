@@ -1,23 +1,28 @@
-//! Which options each job and skeleton has, one behind another: none keeps out another, and none stands in for one that is required.
+//! Which options each job and skeleton has, one behind another: a target and a gap keep each other out, and none stands in for one
+//! that is required.
 
 use super::*;
 
 /// The first words with the files, the options that are for them, and those that may not be absent.
 const HEADS: [(&str, &str, &str); 23] = [
-    ("knapsack sequential k1", "--target --report --audit", ""),
+    (
+        "knapsack sequential k1",
+        "--target --gap --report --audit",
+        "",
+    ),
     (
         "knapsack depth k1",
-        "--workers --depth --target --report --audit",
+        "--workers --depth --target --gap --report --audit",
         "",
     ),
     (
         "knapsack budget k1",
-        "--workers --budget --target --report --audit",
+        "--workers --budget --target --gap --report --audit",
         "",
     ),
     (
         "knapsack steal k1",
-        "--workers --chunk --target --report --audit",
+        "--workers --chunk --target --gap --report --audit",
         "",
     ),
     (
@@ -25,10 +30,22 @@ const HEADS: [(&str, &str, &str); 23] = [
         "--workers --depth --target --report --audit",
         "",
     ),
-    ("tsp sequential t1", "--report --audit", ""),
-    ("tsp depth t1", "--workers --depth --report --audit", ""),
-    ("tsp budget t1", "--workers --budget --report --audit", ""),
-    ("tsp steal t1", "--workers --chunk --report --audit", ""),
+    ("tsp sequential t1", "--gap --report --audit", ""),
+    (
+        "tsp depth t1",
+        "--workers --depth --gap --report --audit",
+        "",
+    ),
+    (
+        "tsp budget t1",
+        "--workers --budget --gap --report --audit",
+        "",
+    ),
+    (
+        "tsp steal t1",
+        "--workers --chunk --gap --report --audit",
+        "",
+    ),
     ("tsp ordered t1", "--workers --depth --report --audit", ""),
     ("subgraph sequential g1 g2", "--report --audit", ""),
     (
@@ -82,12 +99,13 @@ const HEADS: [(&str, &str, &str); 23] = [
 ];
 
 /// Each option's name, and its words.
-const OPTIONS: [(&str, &str); 11] = [
+const OPTIONS: [(&str, &str); 12] = [
     ("--workers", "--workers 3"),
     ("--depth", "--depth 2"),
     ("--budget", "--budget 9"),
     ("--chunk", "--chunk all"),
     ("--target", "--target 7"),
+    ("--gap", "--gap 60"),
     ("--genus", "--genus 5"),
     ("--report", "--report"),
     ("--audit", "--audit"),
@@ -98,6 +116,11 @@ const OPTIONS: [(&str, &str); 11] = [
 
 fn is_among(names: &str, name: &str) -> bool {
     names.split(' ').any(|other| other == name)
+}
+
+/// Whether the one keeps out the other.
+fn are_apart(one: &str, other: &str) -> bool {
+    (one == "--target" && other == "--gap") || (one == "--gap" && other == "--target")
 }
 
 fn expect_fault_behind(rt: &impl Abort, words: &[String], front: usize, kind: UsageKind) {
@@ -129,7 +152,7 @@ fn expect_behind(
         push_words(alloc, &mut words, second_words)?;
         if !is_among(has, first) {
             expect_fault_behind(rt, &words, at, UsageKind::NotHere);
-        } else if !is_among(has, second) {
+        } else if !is_among(has, second) || are_apart(first, second) {
             expect_fault_behind(rt, &words, behind, UsageKind::NotHere);
         } else if first == second {
             expect_fault_behind(rt, &words, behind, UsageKind::Repeated);
