@@ -1,6 +1,6 @@
 -- The node at the path that a search answers is a solution.
 use Rattle.std.proofs.Common.{◌≡◌, ◌≢◌, ◌≤◌, ℕ, List, Option, Some, None, Result, Ok, Err, refl, sym, subst, ◌∙◌}
-use Rattle.std.specs.Prelude.{IsNone, IfSome, IfNone, IfOk, IsSomeAnd, All, Contains, option_and_then}
+use Rattle.std.specs.Prelude.{◌↔◌, IsNone, IfSome, IfNone, IfOk, IsSomeAnd, All, Contains, option_and_then}
 use Rattle.std.specs.Option.{option_map}
 use Rattle.std.proofs.lemmas.List.Elements.{All-contains, All-from_recursion}
 use Rattle.yew_kinds.specs.declared.kind.Answer.TheVariants as answers
@@ -12,9 +12,10 @@ use Rattle.yew_laws.specs.SearchTree.{SearchTree, preorder, at_path, worth_at}
 use Rattle.yew_laws.specs.Tree.{Member, IsRanked}
 use Rattle.yew_laws.proofs.Trees.{tree-contains, tree-sound}
 use Rattle.yew_crew.specs.CrewSearch.{IsGreatest, IsMeeting, IsCrewAnswer}
+use Rattle.yew_walk.specs.Answers.{IsNear}
 use Rattle.yew_walk.proofs.Bests.{member-at_path, rebuilt-IsSome}
 use Rattle.yew_app.specs.declared.solution.Solution.TheVariants as solutions
-use Rattle.yew_app.specs.Solutions.{IsBestNode, IsReachedNode, IsSolution}
+use Rattle.yew_app.specs.Solutions.{IsBestNode, IsNearNode, IsReachedNode, IsSolution}
 
 -- a node whose worth has a property
 record HasWorth {N : Type 0} (worth : N → ℕ) (P : ℕ → Type 0) (found : Option N) : Type 0 where
@@ -25,6 +26,9 @@ record HasWorth {N : Type 0} (worth : N → ℕ) (P : ℕ → Type 0) (found : O
 has-worth : {N : Type 0} (worth : N → ℕ) (P : ℕ → Type 0) (found : Option N) → IsSomeAnd (option_map worth found) P → HasWorth worth P found
 has-worth worth P None h = absurd h
 has-worth worth P (Some n) h = record { node = n; is = refl; has = h }
+
+never-none : {X R : Type 0} (x : X) → IsNone (Some x) → R
+never-none x none = absurd (cc)
 
 some-and : (P : ℕ → Type 0) (found : Option ℕ) (w : ℕ) → found ≡ Some w → P w → IsSomeAnd found P
 some-and P found w e p = subst (λ (o : Option ℕ). IsSomeAnd o P) (sym e) p
@@ -55,28 +59,36 @@ module _ {N : Type 0} (t : SearchTree N) {sound : N → Type 0} (ranked : IsRank
       All-contains (λ (m : Member N). sound m.node) (preorder t) (record { path = path; node = node })
       (All-from_recursion (λ (m : Member N). sound m.node) (preorder t) (tree-sound ranked t.root root)) (tree-contains ranked path t.root node root at)
 
+  -- a node of this worth, where a path has it; there is none exactly where the worth is 0
+  record IsPlaced (worth : ℕ) (found : Option N) : Type 0 where
+    pub absent : IsNone found ↔ (worth ≡ 0)
+    pub has_worth : IfSome found (λ n. sound n × (worth ≡ t.worth n))
+
+  placed-node : (worth : ℕ) (path : Option PathValue) (found : Option N) → IsNone path ↔ (worth ≡ 0) → IfSome path (λ p. worth_at t p.numbers ≡ Some worth)
+      → found ≡ option_and_then (λ (p : PathValue). at_path t p.numbers) path → IsPlaced worth found
+  placed-node worth None found absent has is = record {
+    absent = (λ n. absent.0 refl, λ zero. subst IsNone (sym is) refl);
+    has_worth = subst (λ (o : Option N). IfSome o (λ n. sound n × (worth ≡ t.worth n))) (sym is) tt;
+  }
+  placed-node worth (Some p) found absent has is =
+      let h = has-worth t.worth (λ w. worth ≡ w) (at_path t p.numbers) (some-and (λ w. worth ≡ w) (worth_at t p.numbers) worth has refl) in
+      let there : found ≡ Some h.node = is ∙ h.is in
+      record {
+        absent = (λ n. never-none h.node (subst IsNone there n), λ zero. never-none p (absent.1 zero));
+        has_worth = subst (λ (o : Option N). IfSome o (λ n. sound n × (worth ≡ t.worth n))) (sym there) (node-sound p.numbers h.node h.is, h.has);
+      }
+
   -- a node of the greatest worth
   best-node : (worth : ℕ) (path : Option PathValue) (node : Option N) → IsGreatest t worth path → node ≡ option_and_then (λ (p : PathValue). at_path t p.numbers) path → IsBestNode t sound worth node
-  best-node worth path node best is = record {
-    worth_is = best.worth_is;
-    absent = (absent path best is, none path best is);
-    has_worth = has path best is;
-  }
-    where
-      at : (p : PathValue) → IsGreatest t worth (Some p) → HasWorth t.worth (λ w. worth ≡ w) (at_path t p.numbers)
-      at p b = has-worth t.worth (λ w. worth ≡ w) (at_path t p.numbers) (some-and (λ w. worth ≡ w) (worth_at t p.numbers) worth b.has_worth refl)
+  best-node worth path node best is =
+      let placed = placed-node worth path node best.absent best.has_worth is in
+      record { worth_is = best.worth_is; absent = placed.absent; has_worth = placed.has_worth }
 
-      absent : (path : Option PathValue) → IsGreatest t worth path → node ≡ option_and_then (λ (p : PathValue). at_path t p.numbers) path → IsNone node → worth ≡ 0
-      absent None b e n = b.absent.0 refl
-      absent (Some p) b e n = let h = at p b in let s : node ≡ Some h.node = e ∙ h.is in absurd (cc)
-
-      none : (path : Option PathValue) → IsGreatest t worth path → node ≡ option_and_then (λ (p : PathValue). at_path t p.numbers) path → worth ≡ 0 → IsNone node
-      none None b e z = subst IsNone (sym e) refl
-      none (Some p) b e z = let never = b.absent.1 z in absurd (cc)
-
-      has : (path : Option PathValue) → IsGreatest t worth path → node ≡ option_and_then (λ (p : PathValue). at_path t p.numbers) path → IfSome node (λ n. sound n × (worth ≡ t.worth n))
-      has None b e = subst (λ (o : Option N). IfSome o (λ n. sound n × (worth ≡ t.worth n))) (sym e) tt
-      has (Some p) b e = let h = at p b in subst (λ (o : Option N). IfSome o (λ n. sound n × (worth ≡ t.worth n))) (sym (e ∙ h.is)) (node-sound p.numbers h.node h.is, h.has)
+  -- a node whose worth is within a gap of it
+  near-node : (gap worth : ℕ) (path : Option PathValue) (node : Option N) → IsNear t gap worth path → node ≡ option_and_then (λ (p : PathValue). at_path t p.numbers) path → IsNearNode t sound gap worth node
+  near-node gap worth path node near is =
+      let placed = placed-node worth path node near.absent near.has_worth is in
+      record { within = near.within; no_answer = near.no_answer; absent = placed.absent; has_worth = placed.has_worth }
 
   -- a node that meets a target
   reached-node : (target : ℕ) (path : Option PathValue) (node : Option N) → IsMeeting t target path → node ≡ option_and_then (λ (p : PathValue). at_path t p.numbers) path → IsReachedNode t sound target node
@@ -102,9 +114,11 @@ module _ {N : Type 0} (t : SearchTree N) {sound : N → Type 0} (ranked : IsRank
   solution-best fold kinds.Count worth path found found_is is = absurd is
   solution-best fold kinds.Best worth path found found_is is = best-node worth path found is found_is
   solution-best fold (kinds.Reach target) worth path found found_is is = absurd is
+  solution-best fold (kinds.Near gap) worth path found found_is is = near-node gap worth path found is found_is
 
   pub solution-reach : {S : Type 0} (fold : S) (kind : Kind) (path : Option PathValue) (found : Option N) → found ≡ option_and_then (λ (p : PathValue). at_path t p.numbers) path
       → IsCrewAnswer t fold kind (answers.Reach path) → IsSolution t sound fold kind (solutions.Reach found)
   solution-reach fold kinds.Count path found found_is is = absurd is
   solution-reach fold kinds.Best path found found_is is = absurd is
   solution-reach fold (kinds.Reach target) path found found_is is = reached-node target path found is found_is
+  solution-reach fold (kinds.Near gap) path found found_is is = absurd is

@@ -15,9 +15,10 @@ use Rattle.yew_words.specs.declared.plan.Made.TheVariants as made
 use Rattle.yew_words.specs.Plans.{Planned}
 use Rattle.yew_words.specs.Ranges.{file_count_of}
 use Rattle.yew_words.specs.Word.{Word}
+use Rattle.yew_app.specs.declared.knapsack.Goal.{Goal}
 use Rattle.yew_app.specs.Jobs.{of_job}
 use Rattle.yew_app.specs.Judging.{IsRead, IsRefusedFile}
-use Rattle.yew_app.specs.Knapsacks.{IsGoodKnapsack, knapsack_meaning}
+use Rattle.yew_app.specs.Knapsacks.{IsGoodKnapsack, goal_of, knapsack_meaning}
 use Rattle.yew_app.specs.Meanings.{Meaning, IsOneWay}
 use Rattle.yew_app.specs.Refusals.{Reason}
 use Rattle.yew_app.specs.Semigroups.{semigroups_meaning}
@@ -33,15 +34,15 @@ one-read IsGood one told name a b p q =
     let same : q.bytes ≡ p.bytes = same_Some q.bytes p.bytes (sym q.there ∙ p.there) in
     one p.bytes a b p.good (subst (λ (bytes : List ℕ). IsGood bytes b) same q.good)
 
-knapsack-one_way : knap.FileLaws → (name : Word) (target : Option ℕ) → IsOneWay (knapsack_meaning name target)
-knapsack-one_way laws name target = record {
+knapsack-one_way : knap.FileLaws → (name : Word) (goal : Goal) → IsOneWay (knapsack_meaning name goal)
+knapsack-one_way laws name goal = record {
   one_instance = λ told. one-read IsGoodKnapsack (λ bytes a b p q. laws.one_instance bytes a b p.0 q.0) told name;
   one_reason = λ told. one_reason_of_file IsGoodKnapsack knap.IsKnapsackOffence knap.IsPastLimit (knapsack_laws laws) told name;
   not_both = λ told. read_not_refused IsGoodKnapsack knap.IsKnapsackOffence knap.IsPastLimit (knapsack_laws laws) told name;
 }
 
-tours-one_way : tsp.FileLaws → (name : Word) → IsOneWay (tours_meaning name)
-tours-one_way laws name = record {
+tours-one_way : tsp.FileLaws → (name : Word) (gap : Option ℕ) → IsOneWay (tours_meaning name gap)
+tours-one_way laws name gap = record {
   one_instance = λ told. one-read IsGoodTours (λ bytes a b p q. laws.one_instance bytes a b p.is_file q.is_file) told name;
   one_reason = λ told. one_reason_of_file IsGoodTours tsp.IsTourOffence tsp.IsPastLimit (tour_laws laws) told name;
   not_both = λ told. read_not_refused IsGoodTours tsp.IsTourOffence tsp.IsPastLimit (tour_laws laws) told name;
@@ -98,10 +99,10 @@ semigroups-one_way genus = record {
 -- so are those of each job
 pub job-one_way : knap.FileLaws → tsp.FileLaws → lad.FileLaws → (job : Job) (names : List Word) (plan : Planned) → length names ≡ file_count_of job → of_job job names plan (λ kind. Unit {0}) (λ X N m. IsOneWay m)
 job-one_way knap tsp lad jobs.Knapsack [] plan e = absurd (cc)
-job-one_way knap tsp lad jobs.Knapsack (name ∷ []) plan e = knapsack-one_way knap name plan.target
+job-one_way knap tsp lad jobs.Knapsack (name ∷ []) plan e = knapsack-one_way knap name (goal_of plan.target plan.gap)
 job-one_way knap tsp lad jobs.Knapsack (name ∷ second ∷ names) plan e = absurd (omega (arith, e))
 job-one_way knap tsp lad jobs.Tsp [] plan e = absurd (cc)
-job-one_way knap tsp lad jobs.Tsp (name ∷ []) plan e = tours-one_way tsp name
+job-one_way knap tsp lad jobs.Tsp (name ∷ []) plan e = tours-one_way tsp name plan.gap
 job-one_way knap tsp lad jobs.Tsp (name ∷ second ∷ names) plan e = absurd (omega (arith, e))
 job-one_way knap tsp lad jobs.Subgraph [] plan e = absurd (cc)
 job-one_way knap tsp lad jobs.Subgraph (name ∷ []) plan e = absurd (omega (arith, e))

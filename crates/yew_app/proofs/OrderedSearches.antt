@@ -1,9 +1,12 @@
 -- A search whose tasks are claimed in order.
-use Rattle.std.proofs.Common.{◌≡◌, ◌≤◌, ℕ, ◌^◌, length, map, Result, Ok, Err, subst, sym, arith}
+use Rattle.std.proofs.Common.{◌≡◌, ◌≤◌, ℕ, ◌^◌, length, map, Result, Ok, Err, refl, subst, sym, arith}
 use Rattle.std.specs.Prelude.{IfOk, OnOk}
 use Rattle.yew_crew.specs.CrewSearch.{solution_of, HasCrewLogs}
 use Rattle.yew_kinds.specs.declared.kind.Kind.{Kind}
+use Rattle.yew_kinds.specs.declared.kind.Kind.TheVariants as kinds
+use Rattle.yew_kinds.specs.Kinds.{IsExact, gap_of}
 use Rattle.yew_laws.specs.SearchTree.{SearchTree}
+use Rattle.yew_laws.specs.Tree.{IsBounded, IsRanked}
 use Rattle.yew_log.specs.AuditFull.{IsAuditFull}
 use Rattle.yew_log.specs.Groups.{in_order}
 use Rattle.yew_log.specs.Items.{items_of}
@@ -39,7 +42,7 @@ module _ {N : Type 0} (t : SearchTree N) where
   shared-few (Ordered depth) any many = any tt
 
   -- why a search was refused whose tasks are claimed in order
-  pub ordered-fault : (depth : ℕ) (asked : Asked) (tells : Type 0) (fault : SearchFault) → asked.skeleton ≡ Ordered depth → IsOrderedFault t depth asked.workers tells fault → IsSearchFault t asked tells fault
+  pub ordered-fault : (depth : ℕ) (asked : Asked) (tells : Type 0) (fault : SearchFault) → asked.skeleton ≡ Ordered depth → IsOrderedFault t depth asked.workers tells fault → IsSearchFault t 0 asked tells fault
   ordered-fault depth asked tells Memory same refused = tt
   ordered-fault depth asked tells (AuditFull worker entries numbers) same refused = (
     refused.0,
@@ -55,13 +58,22 @@ pub all-ok : {X E R : Type 0} (answer : Result X E) {P Q S : X → Type 0} → (
 all-ok (Ok x) f p q r = f x p q r
 all-ok (Err e) f p q r = tt
 
+-- where no gap is permitted it is 0
+pub exact-gap : (kind : Kind) → IsExact kind → 0 ≡ gap_of kind
+exact-gap kinds.Count exact = refl
+exact-gap kinds.Best exact = refl
+exact-gap (kinds.Reach target) exact = refl
+exact-gap (kinds.Near gap) exact = absurd exact
+
 -- what was found where tasks are claimed in order
-pub ordered-found : {N S R : Type 0} (t : SearchTree N) (fold : S) (kind : Kind) (asked : Asked) (view : R → LogView) (depth : ℕ) → asked.skeleton ≡ Ordered depth → (found : Found S R) → IsAnswer t fold kind found.answer
+pub ordered-found : {N S R : Type 0} (t : SearchTree N) {sound : N → Type 0} → IsRanked sound t.children t.rank → IsBounded sound t.children t.worth t.bound → sound t.root
+    → (fold : S) (kind : Kind) (asked : Asked) (view : R → LogView) (depth : ℕ) → IsExact kind → asked.skeleton ≡ Ordered depth → (found : Found S R) → IsAnswer t fold kind found.answer
     → HasCrewLogs (searched_tree t kind) 0 (in_order depth) asked.workers (map view found.logs.items) (solution_of t found.answer) → length (items_of (searched_tree t kind) depth) ≤ 2 ^ 20 → IsFound t fold kind asked view found
-ordered-found t fold kind asked view depth same found is has few = record {
+ordered-found t ranked bounded root fold kind asked view depth exact same found is has few = record {
   answer = crew-answer t fold kind found.answer is;
-  logs = subst (λ (s : Skeleton). HasCrewLogs (searched_tree t kind) 0 (table_of s) asked.workers (map view found.logs.items) (solution_of t found.answer)) (sym same) has;
-  first = λ finds. solution-first t fold kind found.answer is;
+  logs = subst (λ (gap : ℕ). HasCrewLogs (searched_tree t kind) gap (table_of asked.skeleton) asked.workers (map view found.logs.items) (solution_of t found.answer)) (exact-gap kind exact)
+      (subst (λ (s : Skeleton). HasCrewLogs (searched_tree t kind) 0 (table_of s) asked.workers (map view found.logs.items) (solution_of t found.answer)) (sym same) has);
+  first = λ finds. solution-first t ranked bounded root fold kind found.answer is;
   in_preorder = λ sequential. let other = sym same in absurd (cc (other, sequential));
   few = subst (λ (s : Skeleton). ¬ HasTooManyItems (searched_tree t kind) s) (sym same) (λ many. omega (arith, many, few));
 }

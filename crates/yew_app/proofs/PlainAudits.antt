@@ -1,16 +1,15 @@
 -- The one log of a sequential search is the logs of a whole search, and it fits where the tree is not large.
-use Rattle.std.proofs.Common.{◌≡◌, ◌≢◌, ℕ, zero, suc, ◌+◌, ◌*◌, ◌≤◌, ◌<◌, ◌⊎◌, inl, inr, List, [], ◌∷◌, ◌++◌, max, length, drop, Bool, true, false, Option, Some, None, nat_le, nat_lt, if◌then◌else◌, refl, ap, sym, subst, ◌∙◌, append-nil, arith, leb-true, leb-false}
+use Rattle.std.proofs.Common.{◌≡◌, ◌≢◌, ℕ, zero, suc, ◌+◌, ◌*◌, ◌≤◌, ◌<◌, ◌⊎◌, inl, inr, List, [], ◌∷◌, ◌++◌, max, length, drop, Bool, true, false, Option, Some, None, ◌==◌, nat_le, if◌then◌else◌, refl, ap, sym, subst, ◌∙◌, append-nil, arith, leb-true, leb-false}
 use Rattle.std.specs.Prelude.{IfSome, Contains, option_and_then}
 use Rattle.std.specs.List.{AllByRecursion, flat_map, sum_by}
+use Rattle.std.proofs.lemmas.Option.{same_Some}
 use Rattle.std.proofs.lemmas.List.Elements.{Contains-append_left, Contains-append_right}
 use Rattle.std.proofs.lemmas.Bool.Decides.{nat_tests}
 use Rattle.std.proofs.lemmas.List.Sums.{sum_by-append, sum_by-cons}
 use Rattle.yew_laws.specs.Bag.{SameBag}
 use Rattle.yew_laws.specs.Cover.{Cover}
-use Rattle.yew_laws.specs.Greatest.{first_best}
-use Rattle.yew_laws.specs.Incumbent.{Incumbent, improved}
 use Rattle.yew_laws.specs.SearchTree.{SearchTree, at_path, below, numbered, tree_paths}
-use Rattle.yew_laws.specs.Tree.{IsBounded, IsRanked}
+use Rattle.yew_laws.specs.Tree.{IsRanked}
 use Rattle.yew_laws.proofs.Bags.{same-is}
 use Rattle.yew_laws.proofs.Below.{below-unfolds, child-at}
 use Rattle.yew_laws.proofs.Members.{AllByRecursion-append, AllByRecursion-weaker, Contains-head, Contains-tail}
@@ -27,10 +26,7 @@ use Rattle.yew_log.proofs.Growth.{worths-append}
 use Rattle.yew_log.proofs.Places.{AtEach-weaker}
 use Rattle.yew_log.proofs.SeqLaws.{Exact, Part, visit-part}
 use Rattle.yew_log.proofs.SeqLawful.{seq_log-lawful}
-use Rattle.yew_walk.specs.declared.keying.Keying.TheVariants.{Plain}
-use Rattle.yew_walk.specs.Hands.{best_after}
-use Rattle.yew_walk.specs.Keys.{answer_key}
-use Rattle.yew_walk.proofs.BestVisits.{answer_key-plain, best_after-worth, best_after-seq_log}
+use Rattle.yew_walk.specs.FirstFound.{first_visit, found_worth, found_path}
 use Rattle.yew_app.specs.Texts.{first_node}
 
 -- one more number in front of numbers whose greatest is 0 or one of them
@@ -86,80 +82,76 @@ all-attained before notes exact =
     exact) in
     AllByRecursion-append (IsAttained whole) (visits notes) (cuts notes) both.0 both.1
 
--- the incumbent of one visit
-abbrev incumbent_at : Judgement → Incumbent
-incumbent_at visit = record { worth = visit.value; path = Some visit.path }
-
--- an incumbent that is that of the first of these visits with its worth, which is above what was there before
-record IsFirstOf (incumbent : Incumbent) (vs : List Judgement) (best : Incumbent) : Type 0 where
+-- the first of these visits that has this worth stands at this path
+record IsFirstOf (worth : ℕ) (vs : List Judgement) (path : List ℕ) : Type 0 where
   pub before : List Judgement
   pub visit : Judgement
   pub after : List Judgement
   pub stands : vs ≡ before ++ visit ∷ after
-  pub is : best ≡ incumbent_at visit
-  pub lower : AllByRecursion (λ (u : Judgement). u.value < visit.value) before
-  pub above : incumbent.worth < visit.value
+  pub path_is : path ≡ visit.path
+  pub value_is : visit.value ≡ worth
+  pub others : AllByRecursion (λ (u : Judgement). u.value ≢ visit.value) before
 
-improved-cases : (incumbent : Incumbent) (visit : Judgement)
-    → ((improved incumbent visit.value visit.path ≡ incumbent) × (visit.value ≤ incumbent.worth)) ⊎ ((improved incumbent visit.value visit.path ≡ incumbent_at visit) × (incumbent.worth < visit.value))
-improved-cases incumbent visit =
-    elim (nat_lt incumbent.worth visit.value) as (λ b. nat_lt incumbent.worth visit.value ≡ b
-    → (((if b then incumbent_at visit else incumbent) ≡ incumbent) × (visit.value ≤ incumbent.worth)) ⊎ (((if b then incumbent_at visit else incumbent) ≡ incumbent_at visit) × (incumbent.worth < visit.value))) [
-      | true ↦ λ is. let above : incumbent.worth < visit.value = grind (arith, nat_tests) in inr (refl, above)
-      | false ↦ λ is. let most : visit.value ≤ incumbent.worth = grind (arith, nat_tests) in inl (refl, most)
-    ]
-    refl
-
--- a visit before the others: the best of all is what was there before, that visit, or one of the others
-cases-push : (incumbent next : Incumbent) (v : Judgement) (vs : List Judgement) → next ≡ improved incumbent v.value v.path → (best_after Plain next vs ≡ next) ⊎ IsFirstOf next vs (best_after Plain next vs) → (best_after Plain next vs ≡ incumbent) ⊎ IsFirstOf incumbent (v ∷ vs) (best_after Plain next vs)
-cases-push incumbent next v vs next_is rest = by (improved-cases incumbent v) rest
+first_visit-stands : (worth : ℕ) (vs : List Judgement) (path : List ℕ) → first_visit worth vs ≡ Some path → IsFirstOf worth vs path
+first_visit-stands worth [] path e = absurd (cc)
+first_visit-stands worth (v ∷ vs) path e = by (v.value == worth) refl (first_visit-stands worth vs path) e
   where
-    by : ((improved incumbent v.value v.path ≡ incumbent) × (v.value ≤ incumbent.worth)) ⊎ ((improved incumbent v.value v.path ≡ incumbent_at v) × (incumbent.worth < v.value)) → (best_after Plain next vs ≡ next) ⊎ IsFirstOf next vs (best_after Plain next vs) → (best_after Plain next vs ≡ incumbent) ⊎ IsFirstOf incumbent (v ∷ vs) (best_after Plain next vs)
-    by (inl kept) (inl e) = inl (e ∙ next_is ∙ kept.0)
-    by (inr new) (inl e) = inr (record { before = []; visit = v; after = vs; stands = refl; is = e ∙ next_is ∙ new.0; lower = tt; above = new.1 })
-    by (inl kept) (inr f) =
-        let same : next.worth ≡ incumbent.worth = ap (λ (i : Incumbent). i.worth) (next_is ∙ kept.0) in
-        let most = kept.1 in
-        let more = f.above in
-        inr (record { before = v ∷ f.before; visit = f.visit; after = f.after; stands = ap (λ us. v ∷ us) f.stands; is = f.is; lower = (omega (arith, same, most, more), f.lower); above = omega (arith, same, more) })
-    by (inr new) (inr f) =
-        let same : next.worth ≡ v.value = ap (λ (i : Incumbent). i.worth) (next_is ∙ new.0) in
-        let least = new.1 in
-        let more = f.above in
-        inr (record { before = v ∷ f.before; visit = f.visit; after = f.after; stands = ap (λ us. v ∷ us) f.stands; is = f.is; lower = (omega (arith, same, more), f.lower); above = omega (arith, same, least, more) })
+    by : (b : Bool) → (v.value == worth) ≡ b → (first_visit worth vs ≡ Some path → IsFirstOf worth vs path) → (if b then Some v.path else first_visit worth vs) ≡ Some path → IsFirstOf worth (v ∷ vs) path
+    by true x stands f =
+        let value : v.value ≡ worth = grind (arith, nat_tests) in
+        record { before = []; visit = v; after = vs; stands = refl; path_is = same_Some path v.path (sym f); value_is = value; others = tt }
+    by false x stands f =
+        let other : v.value ≢ worth = grind (arith, nat_tests) in
+        let rest = stands f in
+        record {
+          before = v ∷ rest.before;
+          visit = rest.visit;
+          after = rest.after;
+          stands = ap (λ us. v ∷ us) rest.stands;
+          path_is = rest.path_is;
+          value_is = rest.value_is;
+          others = (λ same. other (same ∙ rest.value_is), rest.others);
+        }
 
--- the best of some visits is what was there before or the first of those of its worth
-best_after-cases : (incumbent : Incumbent) (vs : List Judgement) → (best_after Plain incumbent vs ≡ incumbent) ⊎ IsFirstOf incumbent vs (best_after Plain incumbent vs)
-best_after-cases incumbent [] = inl refl
-best_after-cases incumbent (v ∷ vs) =
-    let next = improved incumbent (answer_key Plain v.value) v.path in
-    let next_is : next ≡ improved incumbent v.value v.path = ap (λ key. improved incumbent key v.path) (answer_key-plain v.value) in
-    cases-push incumbent next v vs next_is (best_after-cases next vs)
-
-module _ {N : Type 0} (t : SearchTree N) where
+module _ {N : Type 0} (t : SearchTree N) (gap : ℕ) where
   -- the root is visited first
-  root-visited : (levels : ℕ) → Contains (visited_paths (visit_notes t 0 levels [] t.root 0)) []
+  root-visited : (levels : ℕ) → Contains (visited_paths (visit_notes t gap levels [] t.root 0)) []
   root-visited zero = Contains-head [] []
-  root-visited (suc levels) = Contains-head [] (visited_paths (in_turn visited_worth (λ p c h. if nat_le (t.bound c) (limit 0 h) then cut p (t.bound c) h ∷ [] else visit_notes t 0 levels p c h) [] 0 (t.children t.root) (max 0 (t.worth t.root)) ++ ended [] ∷ []))
+  root-visited (suc levels) = Contains-head [] (visited_paths (in_turn visited_worth (λ p c h. if nat_le (t.bound c) (limit gap h) then cut p (t.bound c) h ∷ [] else visit_notes t gap levels p c h) [] 0 (t.children t.root) (max 0 (t.worth t.root)) ++ ended [] ∷ []))
 
   -- the node at the path of a first visit of the greatest worth
   abbrev pub FirstBest : Option N → Type 0
-  FirstBest found = IfSome found (IsFirstBest t (seq_log t 0))
+  FirstBest found = IfSome found (IsFirstBest t (seq_log t gap))
 
-  node-first : (start best : Incumbent) (f : IsFirstOf start (visits (seq_log t 0)) best) → f.visit.value ≡ maximum (values (visits (seq_log t 0))) → (found : Option N) → at_path t f.visit.path ≡ found → FirstBest found
-  node-first start best f greatest_is None e = tt
-  node-first start best f greatest_is (Some n) e = record {
+  node-first : (path : List ℕ) → IsFirstOf (found_worth t gap) (visits (seq_log t gap)) path → (found : Option N) → at_path t path ≡ found → FirstBest found
+  node-first path f None e = tt
+  node-first path f (Some n) e = record {
     before = f.before;
     visit = f.visit;
     after = f.after;
     stands = f.stands;
-    node_there = e;
-    greatest = greatest_is;
-    first = AllByRecursion-weaker (λ (u : Judgement). u.value < f.visit.value) (λ (u : Judgement). u.value ≢ f.visit.value) (λ u less same. omega (arith, less, same)) f.before f.lower;
+    node_there = subst (λ (p : List ℕ). at_path t p ≡ Some n) f.path_is e;
+    greatest = f.value_is;
+    first = f.others;
   }
 
+  found-stands : (path : List ℕ) → found_path t gap ≡ Some path → IsFirstOf (found_worth t gap) (visits (seq_log t gap)) path
+  found-stands path = by (found_worth t gap == 0)
+    where
+      by : (b : Bool) → (if b then None else first_visit (found_worth t gap) (visits (seq_log t gap))) ≡ Some path → IsFirstOf (found_worth t gap) (visits (seq_log t gap)) path
+      by true e = absurd (cc)
+      by false e = first_visit-stands (found_worth t gap) (visits (seq_log t gap)) path e
+
+  -- the node that one worker finds stands at the first visit of the greatest worth
+  pub first_node-first : FirstBest (first_node t gap)
+  first_node-first = by (found_path t gap) refl
+    where
+      by : (found : Option (List ℕ)) → found_path t gap ≡ found → FirstBest (option_and_then (λ path. at_path t path) found)
+      by None e = tt
+      by (Some path) e = node-first path (found-stands path e) (at_path t path) refl
+
   -- which is a visit of the greatest worth
-  first-visit : (found : Option N) → FirstBest found → IfSome found (IsBestVisit t (seq_log t 0))
+  first-visit : (found : Option N) → FirstBest found → IfSome found (IsBestVisit t (seq_log t gap))
   first-visit None f = tt
   first-visit (Some n) f = record {
     visit = f.visit;
@@ -168,32 +160,17 @@ module _ {N : Type 0} (t : SearchTree N) where
     greatest = f.greatest;
   }
 
-  module _ {sound : N → Type 0} (ranked : IsRanked sound t.children t.rank) (bounded : IsBounded sound t.children t.worth t.bound) (root : sound t.root) where
-    -- the first best node stands at the first visit of the greatest worth
-    pub first_node-first : FirstBest (first_node t)
-    first_node-first = by (best_after-cases (record { worth = 0; path = None }) (visits (seq_log t 0)))
-      where
-        by : (best_after Plain (record { worth = 0; path = None }) (visits (seq_log t 0)) ≡ record { worth = 0; path = None }) ⊎ IsFirstOf (record { worth = 0; path = None }) (visits (seq_log t 0)) (best_after Plain (record { worth = 0; path = None }) (visits (seq_log t 0))) → FirstBest (first_node t)
-        by (inl e) =
-            let none : first_best t ≡ None = ap (λ (i : Incumbent). i.path) (sym (best_after-seq_log t ranked bounded root) ∙ e) in
-            subst (λ (o : Option (List ℕ)). FirstBest (option_and_then (λ path. at_path t path) o)) (sym none) tt
-        by (inr f) =
-            let some : first_best t ≡ Some f.visit.path = ap (λ (i : Incumbent). i.path) (sym (best_after-seq_log t ranked bounded root) ∙ f.is) in
-            let worth = ap (λ (i : Incumbent). i.worth) f.is in
-            let most = best_after-worth (record { worth = 0; path = None }) (visits (seq_log t 0)) in
-            subst (λ (o : Option (List ℕ)). FirstBest (option_and_then (λ path. at_path t path) o)) (sym some)
-            (node-first (record { worth = 0; path = None }) (best_after Plain (record { worth = 0; path = None }) (visits (seq_log t 0))) f (omega (arith, worth, most)) (at_path t f.visit.path) refl)
-
+  module _ {sound : N → Type 0} (ranked : IsRanked sound t.children t.rank) (root : sound t.root) where
     -- what holds of the entries behind the Taken entry
-    body-part : Part t 0 [] 0 (visit_notes t 0 (t.rank t.root) [] t.root 0)
-    body-part = visit-part t 0 ranked (t.rank t.root) [] t.root 0 refl root (omega arith) (λ ne. absurd (ne refl))
+    body-part : Part t gap [] 0 (visit_notes t gap (t.rank t.root) [] t.root 0)
+    body-part = visit-part t gap ranked (t.rank t.root) [] t.root 0 refl root (omega arith) (λ ne. absurd (ne refl))
 
-    seq_log-tasks : SameBag (taken_paths (seq_log t 0)) ([] ∷ sent_paths (seq_log t 0))
+    seq_log-tasks : SameBag (taken_paths (seq_log t gap)) ([] ∷ sent_paths (seq_log t gap))
     seq_log-tasks = same-is (ap (λ (ps : List (List ℕ)). [] ∷ ps) (body-part.is_made.untaken ∙ sym body-part.is_made.unsent))
 
-    seq_log-cover : Cover t (visited_paths (seq_log t 0)) (cut_paths (seq_log t 0))
+    seq_log-cover : Cover t (visited_paths (seq_log t gap)) (cut_paths (seq_log t gap))
     seq_log-cover =
-        let notes = visit_notes t 0 (t.rank t.root) [] t.root 0 in
+        let notes = visit_notes t gap (t.rank t.root) [] t.root 0 in
         record {
           root_visited = root-visited (t.rank t.root);
           each_once = subst (λ ps. SameBag (visited_paths notes ++ flat_map (below t) ps) (tree_paths t))
@@ -201,9 +178,9 @@ module _ {N : Type 0} (t : SearchTree N) where
               body-part.all_covered;
         }
 
-    seq_log-attained : Attained t 0 (visits (seq_log t 0)) (cuts (seq_log t 0))
+    seq_log-attained : Attained t gap (visits (seq_log t gap)) (cuts (seq_log t gap))
     seq_log-attained =
-        let notes = visit_notes t 0 (t.rank t.root) [] t.root 0 in
+        let notes = visit_notes t gap (t.rank t.root) [] t.root 0 in
         record {
           worths = body-part.is_made.valued.worths;
           bounds = body-part.is_made.valued.bounds;
@@ -212,16 +189,16 @@ module _ {N : Type 0} (t : SearchTree N) where
         }
 
     -- the one sequential log is the logs of a whole search
-    pub seq_log-are_logs : AreLogs t 0 sequential 1 (seq_log t 0 ∷ []) (first_node t)
+    pub seq_log-are_logs : AreLogs t gap sequential 1 (seq_log t gap ∷ []) (first_node t gap)
     seq_log-are_logs =
-        let is : seq_log t 0 ≡ joined (seq_log t 0 ∷ []) = sym (append-nil (seq_log t 0)) in
+        let is : seq_log t gap ≡ joined (seq_log t gap ∷ []) = sym (append-nil (seq_log t gap)) in
         record {
           one_each = refl;
-          lawful = (seq_log-lawful t 0 ranked root, tt);
+          lawful = (seq_log-lawful t gap ranked root, tt);
           tasks = subst (λ ns. SameBag (taken_paths ns) ([] ∷ sent_paths ns)) is seq_log-tasks;
           cover = subst (λ ns. Cover t (visited_paths ns) (cut_paths ns)) is seq_log-cover;
-          attained = subst (λ ns. Attained t 0 (visits ns) (cuts ns)) is seq_log-attained;
-          best = subst (λ ns. IfSome (first_node t) (IsBestVisit t ns)) is (first-visit (first_node t) first_node-first);
+          attained = subst (λ ns. Attained t gap (visits ns) (cuts ns)) is seq_log-attained;
+          best = subst (λ ns. IfSome (first_node t gap) (IsBestVisit t ns)) is (first-visit (first_node t gap) first_node-first);
         }
 
 -- what the paths of these entries weigh together
@@ -232,7 +209,7 @@ pub total-ones : {X : Type 0} (xs : List X) → sum_by (λ x. 1) xs ≡ length x
 total-ones [] = refl
 total-ones (x ∷ xs) = let a = sum_by-cons (λ y. 1) x xs in let r = total-ones xs in a ∙ omega arith
 
-module _ {N : Type 0} (t : SearchTree N) {sound : N → Type 0} (ranked : IsRanked sound t.children t.rank) (w : List ℕ → ℕ) where
+module _ {N : Type 0} (t : SearchTree N) {sound : N → Type 0} (ranked : IsRanked sound t.children t.rank) (gap : ℕ) (w : List ℕ → ℕ) where
   -- the paths at and below a node weigh what its path and those below its children weigh
   below-weighs : (path : List ℕ) (n : N) → at_path t path ≡ Some n → sound n → sum_by w (below t path) ≡ w path + sum_by w (flat_map (below t) (numbered path 0 (t.children n)))
   below-weighs path n e s = ap (sum_by w) (below-unfolds t ranked path n e s) ∙ sum_by-cons w path (flat_map (below t) (numbered path 0 (t.children n)))
@@ -265,37 +242,37 @@ module _ {N : Type 0} (t : SearchTree N) {sound : N → Type 0} (ranked : IsRank
         omega (arith, here, rest, a, b)
 
   -- a child, which is cut or visited
-  child-weighs : (levels : ℕ) → ((path : List ℕ) (n : N) (held : ℕ) → at_path t path ≡ Some n → sound n → t.rank n ≤ levels → total w (visit_notes t 0 levels path n held) ≤ 2 * sum_by w (below t path)) → (p : List ℕ) (c : N) (h : ℕ) → at_path t p ≡ Some c → sound c → t.rank c ≤ levels → total w (if nat_le (t.bound c) (limit 0 h) then cut p (t.bound c) h ∷ [] else visit_notes t 0 levels p c h) ≤ 2 * sum_by w (below t p)
+  child-weighs : (levels : ℕ) → ((path : List ℕ) (n : N) (held : ℕ) → at_path t path ≡ Some n → sound n → t.rank n ≤ levels → total w (visit_notes t gap levels path n held) ≤ 2 * sum_by w (below t path)) → (p : List ℕ) (c : N) (h : ℕ) → at_path t p ≡ Some c → sound c → t.rank c ≤ levels → total w (if nat_le (t.bound c) (limit gap h) then cut p (t.bound c) h ∷ [] else visit_notes t gap levels p c h) ≤ 2 * sum_by w (below t p)
   child-weighs levels visit p c h e s r =
-      elim (nat_le (t.bound c) (limit 0 h)) as (λ b. total w (if b then cut p (t.bound c) h ∷ [] else visit_notes t 0 levels p c h) ≤ 2 * sum_by w (below t p)) [
+      elim (nat_le (t.bound c) (limit gap h)) as (λ b. total w (if b then cut p (t.bound c) h ∷ [] else visit_notes t gap levels p c h) ≤ 2 * sum_by w (below t p)) [
         | true ↦ cut-weighs p c (t.bound c) h e s
         | false ↦ visit p c h e s r
       ]
 
   -- of each path at or below a node there are at most two entries
-  visit_notes-weighs : (levels : ℕ) (path : List ℕ) (n : N) (held : ℕ) → at_path t path ≡ Some n → sound n → t.rank n ≤ levels → total w (visit_notes t 0 levels path n held) ≤ 2 * sum_by w (below t path)
+  visit_notes-weighs : (levels : ℕ) (path : List ℕ) (n : N) (held : ℕ) → at_path t path ≡ Some n → sound n → t.rank n ≤ levels → total w (visit_notes t gap levels path n held) ≤ 2 * sum_by w (below t path)
   visit_notes-weighs zero path n held e s low = closed-weighs path n (t.worth n) held [] e s (omega arith)
   visit_notes-weighs (suc levels) path n held e s low =
-      let made : List ℕ → N → ℕ → List Note = λ p c h. if nat_le (t.bound c) (limit 0 h) then cut p (t.bound c) h ∷ [] else visit_notes t 0 levels p c h in
+      let made : List ℕ → N → ℕ → List Note = λ p c h. if nat_le (t.bound c) (limit gap h) then cut p (t.bound c) h ∷ [] else visit_notes t gap levels p c h in
       closed-weighs path n (t.worth n) held (in_turn visited_worth made path 0 (t.children n) (max held (t.worth n))) e s
       (in_turn-weighs levels made (child-weighs levels (visit_notes-weighs levels)) path n e 0 (t.children n) (max held (t.worth n)) refl (ranked.stays_sound n s)
       (AllByRecursion-weaker (λ c. t.rank c < t.rank n) (λ c. t.rank c ≤ levels) (λ c l. omega (arith, l, low)) (t.children n) (ranked.rank_falls n s)))
 
   -- however paths are weighed, the one log weighs at most three times what the tree weighs
-  seq_log-weighs : sound t.root → total w (seq_log t 0) ≤ 3 * sum_by w (tree_paths t)
+  seq_log-weighs : sound t.root → total w (seq_log t gap) ≤ 3 * sum_by w (tree_paths t)
   seq_log-weighs root =
-      let a = sum_by-cons (λ note. w (path_of note)) (taken []) (visit_notes t 0 (t.rank t.root) [] t.root 0) in
+      let a = sum_by-cons (λ note. w (path_of note)) (taken []) (visit_notes t gap (t.rank t.root) [] t.root 0) in
       let b = visit_notes-weighs (t.rank t.root) [] t.root 0 refl root (omega arith) in
       let c = below-weighs [] t.root refl root in
       omega (arith, a, b, c)
 
 -- a log that is past the limits of an audit is that of a large tree
-pub meets-large : {N : Type 0} (t : SearchTree N) {sound : N → Type 0} → IsRanked sound t.children t.rank → sound t.root → MeetsLimits (seq_log t 0) → IsLarge t
-meets-large t ranked root (inl more) =
-    let weighs = seq_log-weighs t ranked (λ path. 1) root in
-    let entries = total-ones (seq_log t 0) in
+pub meets-large : {N : Type 0} (t : SearchTree N) (gap : ℕ) {sound : N → Type 0} → IsRanked sound t.children t.rank → sound t.root → MeetsLimits (seq_log t gap) → IsLarge t
+meets-large t gap ranked root (inl more) =
+    let weighs = seq_log-weighs t ranked gap (λ path. 1) root in
+    let entries = total-ones (seq_log t gap) in
     let nodes = total-ones (tree_paths t) in
     inl (omega (arith, weighs, entries, nodes, more))
-meets-large t ranked root (inr more) =
-    let weighs = seq_log-weighs t ranked (λ path. length path) root in
+meets-large t gap ranked root (inr more) =
+    let weighs = seq_log-weighs t ranked gap (λ path. length path) root in
     inr (omega (arith, weighs, more))

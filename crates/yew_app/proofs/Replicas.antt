@@ -3,6 +3,7 @@ use Rattle.std.proofs.Common.{◌≡◌, ℕ, List, [], ◌∷◌, ◌++◌, len
 use Rattle.std.specs.Prelude.{IfSome, IsSome}
 use Rattle.yew_io.specs.Shelf.{File}
 use Rattle.yew_io.specs.Sink.{Appends}
+use Rattle.yew_kinds.specs.Kinds.{gap_of}
 use Rattle.yew_laws.specs.SearchTree.{SearchTree}
 use Rattle.yew_words.specs.declared.plan.Job.{Job}
 use Rattle.yew_words.specs.declared.plan.Job.TheVariants as jobs
@@ -25,8 +26,8 @@ use Rattle.yew_app.specs.Texts.{IsFirstText}
 use Rattle.yew_app.proofs.Serving.{meet-job}
 
 -- a tree has one text of one worker in preorder
-one-first : {N : Type 0} (t : SearchTree N) (report audit : Bool) (lines : Option N → List ℕ) (a b : List ℕ) → IsFirstText t report audit lines a → IsFirstText t report audit lines b → a ≡ b
-one-first t report audit lines a b p q = p.text_is ∙ ap (λ (tail : List ℕ). lines _ ++ tail) (p.is_first.text_is ∙ sym q.is_first.text_is) ∙ sym q.text_is
+one-first : {N : Type 0} (t : SearchTree N) (gap : ℕ) (report audit : Bool) (lines : Option N → List ℕ) (a b : List ℕ) → IsFirstText t gap report audit lines a → IsFirstText t gap report audit lines b → a ≡ b
+one-first t gap report audit lines a b p q = p.text_is ∙ ap (λ (tail : List ℕ). lines _ ++ tail) (p.is_first.text_is ∙ sym q.is_first.text_is) ∙ sym q.text_is
 
 -- what is made has one text
 one-made : (kind : Made) (solve : Bool) (seed size : ℕ) (a b : List ℕ) → IsMadeText kind solve seed size a → IsMadeText kind solve seed size b → a ≡ b
@@ -56,7 +57,7 @@ map-job (jobs.Make kind) (name ∷ names) plan A B K L made by a = absurd a
 module _ (told : List File) where
   -- the text of one worker in preorder for these files, whatever the skeleton of the plan
   abbrev FirstFiles : {X N : Type 0} → Meaning X N → Bool → Bool → List ℕ → Type 0
-  FirstFiles {X} m report audit text = (instance : X) × m.Reads told instance × IsFirstText (searched m instance) report audit (m.lines instance) text
+  FirstFiles {X} m report audit text = (instance : X) × m.Reads told instance × IsFirstText (searched m instance) (gap_of m.kind) report audit (m.lines instance) text
 
   abbrev FirstJob : Planned → List ℕ → Type 0
   FirstJob plan text = of_job plan.job plan.files plan (λ kind. IsMadeText kind plan.solve plan.seed plan.size text) (λ X N m. FirstFiles m plan.report plan.audit text)
@@ -69,7 +70,7 @@ module _ (told : List File) where
 
   one-files : {X N : Type 0} (m : Meaning X N) → IsOneWay m → (report audit : Bool) (a b : List ℕ) → FirstFiles m report audit a → FirstFiles m report audit b → a ≡ b
   one-files m one report audit a b p q =
-      one-first (searched m q.0) report audit (m.lines q.0) a b (subst (λ (x : _). IsFirstText (searched m x) report audit (m.lines x) a) (one.one_instance told p.0 q.0 p.1 q.1) p.2) q.2
+      one-first (searched m q.0) (gap_of m.kind) report audit (m.lines q.0) a b (subst (λ (x : _). IsFirstText (searched m x) (gap_of m.kind) report audit (m.lines x) a) (one.one_instance told p.0 q.0 p.1 q.1) p.2) q.2
 
   -- there is one such text
   one-text : (plan : Planned) (a b : List ℕ) → of_job plan.job plan.files plan (λ kind. Unit {0}) (λ X N m. IsOneWay m) → FirstJob plan a → FirstJob plan b → a ≡ b

@@ -1,6 +1,7 @@
 -- What is written behind an answer, of the logs of all workers, is the report and the audit of their entries.
 use Rattle.std.proofs.Common.{◌≡◌, ℕ, suc, ◌+◌, List, [], ◌∷◌, ◌++◌, map, Bool, true, false, Some, None, inl, inr, refl, ap, sym, subst, ◌∙◌, arith, append-nil, append_assoc}
 use Rattle.std.specs.Prelude.{if◌then◌else◌, IfSome, IsTrue, IsFalse}
+use Rattle.yew_kinds.specs.Kinds.{gap_of}
 use Rattle.yew_laws.specs.SearchTree.{SearchTree}
 use Rattle.yew_log.specs.declared.entry.Totals.{Totals}
 use Rattle.yew_log.specs.AuditFull.{MeetsLimits}
@@ -55,10 +56,10 @@ module _ {R : Type 0} (view : R → LogView) where
   report-all report workers entries logs are = ap (λ (u : Totals). if report then report_text workers u else []) (joint_totals-all entries logs are)
 
   -- the one sequential log is the log of worker 1
-  pub plain-are_logs : {N : Type 0} (t : SearchTree N) (logs : List R) → HasPlainLog t view logs → AreLogsOf 1 (seq_log t 0 ∷ []) (map view logs)
-  plain-are_logs t [] has = absurd has
-  plain-are_logs t (log ∷ []) has = (record { told = has.told; totals_are = has.totals_are; number_is = has.number_is }, tt)
-  plain-are_logs t (log ∷ second ∷ more) has = absurd has
+  pub plain-are_logs : {N : Type 0} (t : SearchTree N) (gap : ℕ) (logs : List R) → HasPlainLog t gap view logs → AreLogsOf 1 (seq_log t gap ∷ []) (map view logs)
+  plain-are_logs t gap [] has = absurd has
+  plain-are_logs t gap (log ∷ []) has = (record { told = has.told; totals_are = has.totals_are; number_is = has.number_is }, tt)
+  plain-are_logs t gap (log ∷ second ∷ more) has = absurd has
 
 abbrev counts_view : CountsLog → LogView
 counts_view log = log_view None log.totals log.number
@@ -94,7 +95,7 @@ module _ (asked : Asked) where
       ∙ ap (λ nss. (if asked.report then report_text asked.workers (all_totals entries) else []) ++ audit_text nss) (notes-told 1 entries logs are)
       ∙ ap (λ (b : Bool). (if asked.report then report_text asked.workers (all_totals entries) else []) ++ (if b then audit_text entries else [])) (sym told)
 
--- in preorder and with tasks in order the first best node is found
+-- in preorder and with tasks in order what one worker finds is found
 pub sequential-finds : (skeleton : Skeleton) → IsSequential skeleton → FindsFirst skeleton
 sequential-finds skeleton is = subst FindsFirst (sym is) tt
 
@@ -111,25 +112,25 @@ no-tail false false r a workers entries others = refl
 no-tail false true r a workers entries others = absurd (cc)
 no-tail true audit r a workers entries others = absurd (cc)
 
-module _ {X N : Type 0} (m : Meaning X N) (asked : Asked) (x : X) (askable : IsAskable asked) (first : IfSome (first_node (searched m x)) (IsFirstBest (searched m x) (seq_log (searched m x) 0))) where
+module _ {X N : Type 0} (m : Meaning X N) (asked : Asked) (x : X) (askable : IsAskable asked) (first : IfSome (first_node (searched m x) (gap_of m.kind)) (IsFirstBest (searched m x) (seq_log (searched m x) (gap_of m.kind)))) where
   -- the text of an answer, where the tail is that of any entries of which these are the logs
   module _ {R : Type 0} (view : R → LogView) (lines tail text : List ℕ) (logs : List R)
       (spelled : (entries : List (List Note)) → AreLogsOf 1 entries (map view logs) → tail ≡ tail_text asked.report asked.audit asked.workers entries)
-      (fits : HasPlainLog (searched m x) view logs → IsTrue asked.audit → ¬ MeetsLimits (seq_log (searched m x) 0)) where
-    -- its first line is that of the first best node
-    first-lines : IsAnswered m asked x view lines logs → text ≡ lines ++ tail → FindsFirst asked.skeleton → text ≡ m.lines x (first_node (searched m x)) ++ tail
+      (fits : HasPlainLog (searched m x) (gap_of m.kind) view logs → IsTrue asked.audit → ¬ MeetsLimits (seq_log (searched m x) (gap_of m.kind))) where
+    -- its first lines are those of the node that one worker finds
+    first-lines : IsAnswered m asked x view lines logs → text ≡ lines ++ tail → FindsFirst asked.skeleton → text ≡ m.lines x (first_node (searched m x) (gap_of m.kind)) ++ tail
     first-lines answered text_is finds = text_is ∙ ap (λ l. l ++ tail) (answered.lines_are ∙ ap (m.lines x) (answered.first finds))
 
     -- the text that one worker writes in preorder
-    first-text : IsAnswered m asked x view lines logs → text ≡ lines ++ tail → AsksFirst asked → IsFirstText (searched m x) asked.report asked.audit (m.lines x) text
+    first-text : IsAnswered m asked x view lines logs → text ≡ lines ++ tail → AsksFirst asked → IsFirstText (searched m x) (gap_of m.kind) asked.report asked.audit (m.lines x) text
     first-text answered text_is (inl sequential) = record {
       tail = tail;
       text_is = first-lines answered text_is (sequential-finds asked.skeleton sequential);
       is_first = record {
         first = first;
         text_is =
-            spelled (seq_log (searched m x) 0 ∷ []) (plain-are_logs view (searched m x) logs (answered.in_preorder sequential))
-            ∙ ap (λ w. tail_text asked.report asked.audit w (seq_log (searched m x) 0 ∷ [])) (askable.alone sequential);
+            spelled (seq_log (searched m x) (gap_of m.kind) ∷ []) (plain-are_logs view (searched m x) (gap_of m.kind) logs (answered.in_preorder sequential))
+            ∙ ap (λ w. tail_text asked.report asked.audit w (seq_log (searched m x) (gap_of m.kind) ∷ [])) (askable.alone sequential);
       };
       fits = fits (answered.in_preorder sequential);
     }
@@ -138,7 +139,7 @@ module _ {X N : Type 0} (m : Meaning X N) (asked : Asked) (x : X) (askable : IsA
       text_is = first-lines answered text_is (ordered-finds asked.skeleton plain.0);
       is_first = record {
         first = first;
-        text_is = spelled answered.logs_are.entries answered.logs_are.each ∙ no-tail asked.report asked.audit plain.1 plain.2 asked.workers answered.logs_are.entries (seq_log (searched m x) 0 ∷ []);
+        text_is = spelled answered.logs_are.entries answered.logs_are.each ∙ no-tail asked.report asked.audit plain.1 plain.2 asked.workers answered.logs_are.entries (seq_log (searched m x) (gap_of m.kind) ∷ []);
       };
       fits = λ told. absurd (cc (told, plain.2));
     }
@@ -170,4 +171,4 @@ module _ {X N : Type 0} (m : Meaning X N) (asked : Asked) (x : X) (askable : IsA
   pub full-text : (lines text : List ℕ) (logs : List FullLog) → IsTrue asked.audit → IsAnswered m asked x full_view lines logs → text ≡ lines ++ full_tail asked logs → IsJobText m asked x text
   full-text lines text logs told =
       job-text full_view lines (full_tail asked logs) text logs (λ entries are. full_tail-is asked asked.audit told entries logs are)
-      (λ has asked_for. let one = one-log (searched m x) full_view logs has in audit-fits (searched m x) one.0 one.1.1)
+      (λ has asked_for. let one = one-log (searched m x) (gap_of m.kind) full_view logs has in audit-fits (searched m x) (gap_of m.kind) one.0 one.1.1)

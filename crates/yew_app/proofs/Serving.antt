@@ -2,6 +2,7 @@
 use Rattle.std.proofs.Common.{◌≡◌, ℕ, ◌+◌, ◌⊎◌, List, [], ◌∷◌, length, Option, Some, None, inl, inr, refl, sym, ap, subst, ◌∙◌, arith, length-append}
 use Rattle.std.specs.Prelude.{IfSome, IsSomeAnd, IsTrue}
 use Rattle.std.proofs.lemmas.List.Sums.{sum_by-append, sum_by-cons}
+use Rattle.yew_kinds.specs.Kinds.{gap_of}
 use Rattle.yew_laws.specs.SearchTree.{SearchTree}
 use Rattle.yew_log.specs.AuditFull.{IsAuditFull, MeetsLimits}
 use Rattle.yew_log.specs.Groups.{sequential}
@@ -27,8 +28,8 @@ use Rattle.yew_app.specs.Runs.{asked_of, IsPlanOf, AnswersJob, RefusesJob, Meets
 use Rattle.yew_app.proofs.Alone.{one-worker}
 
 -- a log that was full is that of a sequential log past the limits
-full-meets : {N : Type 0} (t : SearchTree N) (workers entries numbers : ℕ) → IsAuditFull t 0 sequential workers entries numbers → MeetsLimits (seq_log t 0)
-full-meets t workers entries numbers f =
+full-meets : {N : Type 0} (t : SearchTree N) (gap workers entries numbers : ℕ) → IsAuditFull t gap sequential workers entries numbers → MeetsLimits (seq_log t gap)
+full-meets t gap workers entries numbers f =
     let next = f.sequential_next refl in
     let rest = next.0 in
     let whole = f.full in
@@ -37,7 +38,7 @@ full-meets t workers entries numbers f =
     let m = sum_by-cons (λ note. length (path_of note)) f.next rest in
     past whole l n m
   where
-    past : IsFull (Some f.notes) (path_of f.next) entries numbers → length (seq_log t 0) ≡ length f.notes + length (f.next ∷ (f.sequential_next refl).0) → path_numbers (seq_log t 0) ≡ path_numbers f.notes + path_numbers (f.next ∷ (f.sequential_next refl).0) → path_numbers (f.next ∷ (f.sequential_next refl).0) ≡ length (path_of f.next) + path_numbers (f.sequential_next refl).0 → MeetsLimits (seq_log t 0)
+    past : IsFull (Some f.notes) (path_of f.next) entries numbers → length (seq_log t gap) ≡ length f.notes + length (f.next ∷ (f.sequential_next refl).0) → path_numbers (seq_log t gap) ≡ path_numbers f.notes + path_numbers (f.next ∷ (f.sequential_next refl).0) → path_numbers (f.next ∷ (f.sequential_next refl).0) ≡ length (path_of f.next) + path_numbers (f.sequential_next refl).0 → MeetsLimits (seq_log t gap)
     past w l n m =
         let same : w.notes ≡ f.notes = cc in
         let a = ap length same in
@@ -50,13 +51,13 @@ full-meets t workers entries numbers f =
         ]
 
 -- an audit that has room for a search is not full
-no-room : {N : Type 0} (t : SearchTree N) (skeleton : Skeleton) (asked : Asked) (worker entries numbers : ℕ) → asked.skeleton ≡ skeleton → HasRoom t skeleton → HasFullAudit t asked worker entries numbers → ⊥
-no-room t skeletons.Sequential asked worker entries numbers same room full =
-    room (full-meets t asked.workers entries numbers (subst (λ (s : Skeleton). IsAuditFull t 0 (table_of s) asked.workers entries numbers) same full.is_full))
-no-room t (skeletons.Depth depth) asked worker entries numbers same room full = room full.large
-no-room t (skeletons.Budget budget) asked worker entries numbers same room full = room full.large
-no-room t (skeletons.Steal chunk) asked worker entries numbers same room full = room full.large
-no-room t (skeletons.Ordered depth) asked worker entries numbers same room full = room full.large
+no-room : {N : Type 0} (t : SearchTree N) (gap : ℕ) (skeleton : Skeleton) (asked : Asked) (worker entries numbers : ℕ) → asked.skeleton ≡ skeleton → HasRoom t gap skeleton → HasFullAudit t gap asked worker entries numbers → ⊥
+no-room t gap skeletons.Sequential asked worker entries numbers same room full =
+    room (full-meets t gap asked.workers entries numbers (subst (λ (s : Skeleton). IsAuditFull t gap (table_of s) asked.workers entries numbers) same full.is_full))
+no-room t gap (skeletons.Depth depth) asked worker entries numbers same room full = room full.large
+no-room t gap (skeletons.Budget budget) asked worker entries numbers same room full = room full.large
+no-room t gap (skeletons.Steal chunk) asked worker entries numbers same room full = room full.large
+no-room t gap (skeletons.Ordered depth) asked worker entries numbers same room full = room full.large
 
 -- one worker in preorder claims no tasks in order
 sequential-unordered : {R : Type 0} (skeleton : Skeleton) → IsSequential skeleton → IsOrdered skeleton → R
@@ -72,8 +73,8 @@ NoFault reason = (name : Word) → reason ≡ CannotRead name → ⊥
 
 module _ {X N : Type 0} (m : Meaning X N) (one : IsOneWay m) (asked : Asked) (told : List File) where
   -- what the instance of the files says, it says of each
-  same-meets : (a b : X) → m.Reads told a → m.Reads told b → MeetsLimits (seq_log (searched m a) 0) → MeetsLimits (seq_log (searched m b) 0)
-  same-meets a b p q = subst (λ (x : X). MeetsLimits (seq_log (searched m x) 0)) (one.one_instance told a b p q)
+  same-meets : (a b : X) → m.Reads told a → m.Reads told b → MeetsLimits (seq_log (searched m a) (gap_of m.kind)) → MeetsLimits (seq_log (searched m b) (gap_of m.kind))
+  same-meets a b p q = subst (λ (x : X). MeetsLimits (seq_log (searched m x) (gap_of m.kind))) (one.one_instance told a b p q)
 
   same-passes : (a b : X) → m.Reads told a → m.Reads told b → HasTooManyItems (searched m a) asked.skeleton → HasTooManyItems (searched m b) asked.skeleton
   same-passes a b p q = subst (λ (x : X). HasTooManyItems (searched m x) asked.skeleton) (one.one_instance told a b p q)
@@ -137,8 +138,8 @@ module _ {X N : Type 0} (m : Meaning X N) (one : IsOneWay m) (asked : Asked) (to
   stopped-fine (FullAudit worker entries numbers) none stops fine =
       let filled : FillsFiles m asked worker entries numbers told = stops.3 in
       let same = one.one_instance told filled.0 fine.0 filled.1 fine.1 in
-      absurd (no-room (searched m fine.0) asked.skeleton asked worker entries numbers refl (fine.2 stops.0)
-      (subst (λ (x : X). HasFullAudit (searched m x) asked worker entries numbers) same filled.2))
+      absurd (no-room (searched m fine.0) (gap_of m.kind) asked.skeleton asked worker entries numbers refl (fine.2 stops.0)
+      (subst (λ (x : X). HasFullAudit (searched m x) (gap_of m.kind) asked worker entries numbers) same filled.2))
   stopped-fine NoMemory none stops fine = refl
   stopped-fine (BadUsage place kind) none stops fine = absurd stops
   stopped-fine CannotWrite none stops fine = absurd stops

@@ -1,13 +1,9 @@
 -- What the words ask of a search.
-use Rattle.std.specs.Prelude.{◌≡◌, ℕ, ◌≤◌, ◌⊎◌, true, false, IsFalse}
+use Rattle.std.specs.Prelude.{◌≡◌, ◌≤◌, ◌⊎◌, true, false, IsFalse}
 use Rattle.yew_log.specs.Groups.{Skeleton as Table, one, all, sequential, by_depth, by_budget, by_steal, in_order}
 use Rattle.yew_words.specs.declared.plan.Skeleton.{Skeleton}
 use Rattle.yew_words.specs.declared.plan.Skeleton.TheVariants.{Sequential, Depth, Budget, Steal, Ordered}
 use Rattle.yew_app.specs.declared.asked.Asked.{Asked}
-
--- by how much a node that is cut off may better what is held: no words permit any gap yet
-abbrev pub permitted_gap : ℕ
-permitted_gap = 0
 
 -- by which table the groups of a log are judged
 abbrev pub table_of : Skeleton → Table

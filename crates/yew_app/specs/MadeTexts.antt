@@ -17,7 +17,6 @@ use Rattle.yew_words.specs.declared.plan.Made.{Made}
 use Rattle.yew_words.specs.declared.plan.Made.TheVariants as made
 use Rattle.yew_app.specs.Knapsacks.{IsGoodKnapsack}
 use Rattle.yew_app.specs.ShortestTours.{IsGoodTours}
-use Rattle.yew_app.specs.Asks.{permitted_gap}
 
 -- four lines: what was made, with its size and seed, the best value, and how many nodes were visited and how many were cut
 abbrev pub solved_lines : List ℕ → ℕ → ℕ → ℕ → Totals → List ℕ
@@ -27,9 +26,9 @@ solved_lines made size seed best totals =
     ++ line (codes "visited " ++ count_text totals.visited)
     ++ line (codes "cut " ++ count_text totals.cut)
 
--- the totals of the one log of a search of one worker
+-- the totals of the one log of a search of one worker, without a gap
 abbrev pub sequential_totals : {N : Type 0} → SearchTree N → Totals
-sequential_totals t = all_totals (seq_log t permitted_gap ∷ [])
+sequential_totals t = all_totals (seq_log t 0 ∷ [])
 
 -- the best profit and the least length, as the greatest worths of the trees of the made instances tell them
 abbrev pub made_profit : ℕ → ℕ → ℕ

@@ -2,13 +2,14 @@
 use Rattle.std.specs.Prelude.{◌≡◌, ℕ, ◌≤◌, ◌^◌, List, [], ◌∷◌, Option, Some, IfSome, Contains, IsTrue}
 use Rattle.yew_io.specs.Shelf.{File}
 use Rattle.yew_kinds.specs.declared.kind.Kind.{Kind}
+use Rattle.yew_kinds.specs.Kinds.{gap_of}
 use Rattle.yew_laws.specs.SearchTree.{SearchTree}
 use Rattle.yew_log.specs.AuditFull.{MeetsLimits}
 use Rattle.yew_log.specs.SeqLog.{seq_log}
 use Rattle.yew_walk.specs.PlainSearch.{searched_tree}
 use Rattle.yew_words.specs.Word.{Word}
 use Rattle.yew_app.specs.Refusals.{Reason, CannotRead, NotInGrammar, TooLong, TooLarge, FullAudit, TaskPastLimit, NoMemory}
-use Rattle.yew_app.specs.Asks.{permitted_gap, IsOrdered}
+use Rattle.yew_app.specs.Asks.{IsOrdered}
 use Rattle.yew_app.specs.Texts.{IsSearchText, HasFullAudit, HasRoom, HasTooManyItems}
 use Rattle.yew_app.specs.declared.asked.Asked.{Asked}
 
@@ -44,7 +45,7 @@ module _ {X N : Type 0} (m : Meaning X N) where
 
   -- the text of an instance: the right lines of what was found, and what is asked for of the logs behind it
   pub record IsJobText (asked : Asked) (instance : X) (text : List ℕ) : Type 0 where
-    pub found : IsSearchText (searched instance) asked (m.lines instance) text
+    pub found : IsSearchText (searched instance) (gap_of m.kind) asked (m.lines instance) text
     pub right : m.IsRight instance (m.lines instance found.solution)
 
   -- the text is one for these files
@@ -53,12 +54,12 @@ module _ {X N : Type 0} (m : Meaning X N) where
 
   -- the files are read, and the sequential log is past what an audit has room for
   abbrev pub MeetsFiles : List File → Type 0
-  MeetsFiles told = (instance : X) × m.Reads told instance × MeetsLimits (seq_log (searched instance) permitted_gap)
+  MeetsFiles told = (instance : X) × m.Reads told instance × MeetsLimits (seq_log (searched instance) (gap_of m.kind))
 
   -- the files are read, an audit that is asked for has room for the search, and there are not too many items
   abbrev pub IsFineFiles : Asked → List File → Type 0
   IsFineFiles asked told =
-      (instance : X) × m.Reads told instance × (IsTrue asked.audit → HasRoom (searched instance) asked.skeleton) × ¬ HasTooManyItems (searched instance) asked.skeleton
+      (instance : X) × m.Reads told instance × (IsTrue asked.audit → HasRoom (searched instance) (gap_of m.kind) asked.skeleton) × ¬ HasTooManyItems (searched instance) asked.skeleton
 
   -- the files are read, and there are too many items
   abbrev pub PassesFiles : Asked → List File → Type 0
@@ -66,7 +67,7 @@ module _ {X N : Type 0} (m : Meaning X N) where
 
   -- the files are read, and the audit of this worker is full
   abbrev pub FillsFiles : Asked → ℕ → ℕ → ℕ → List File → Type 0
-  FillsFiles asked worker entries numbers told = (instance : X) × m.Reads told instance × HasFullAudit (searched instance) asked worker entries numbers
+  FillsFiles asked worker entries numbers told = (instance : X) × m.Reads told instance × HasFullAudit (searched instance) (gap_of m.kind) asked worker entries numbers
 
   -- why no instance is read: the shelf failed at a file that was to be opened, a file is refused where the files are known,
   -- or memory ran out

@@ -1,5 +1,5 @@
 -- What a search has found, with the node of its solution.
-use Rattle.std.specs.Prelude.{◌≡◌, ℕ, ◌≤◌, ◌↔◌, Option, None, IsNone, IfSome}
+use Rattle.std.specs.Prelude.{◌≡◌, ℕ, ◌+◌, ◌≤◌, ◌↔◌, Option, None, IsNone, IfSome}
 use Rattle.yew_kinds.specs.declared.kind.Kind.{Kind}
 use Rattle.yew_kinds.specs.declared.kind.Kind.TheVariants as kinds
 use Rattle.yew_laws.specs.Greatest.{greatest, Reach}
@@ -20,6 +20,13 @@ module _ {N : Type 0} (t : SearchTree N) (sound : N → Type 0) where
     pub absent : IsNone node ↔ (worth ≡ 0)
     pub has_worth : IfSome node (λ n. sound n × (worth ≡ t.worth n))
 
+  -- a node whose worth is within the gap of the greatest one; there is none exactly where its worth is 0, and the greatest one is then 0 too
+  pub record IsNearNode (gap worth : ℕ) (node : Option N) : Type 0 where
+    pub within : greatest t ≤ worth + gap
+    pub no_answer : worth ≡ 0 → greatest t ≡ 0
+    pub absent : IsNone node ↔ (worth ≡ 0)
+    pub has_worth : IfSome node (λ n. sound n × (worth ≡ t.worth n))
+
   -- a node that meets a target; where there is none, no node does
   pub record IsReachedNode (target : ℕ) (node : Option N) : Type 0 where
     pub absent : IsNone node → ¬ Reach t target
@@ -30,4 +37,5 @@ module _ {N : Type 0} (t : SearchTree N) (sound : N → Type 0) where
   IsSolution fold kinds.Count (solutions.Count sum) = sum ≡ fold
   IsSolution fold kinds.Best (solutions.Best worth node) = IsBestNode worth node
   IsSolution fold (kinds.Reach target) (solutions.Reach node) = IsReachedNode target node
+  IsSolution fold (kinds.Near gap) (solutions.Best worth node) = IsNearNode gap worth node
   IsSolution fold _ _ = ⊥

@@ -1,13 +1,13 @@
 //! A crew of workers in threads.
 
 ghost use Rattle.std.specs.Prelude.{◌≡◌, IfOk, IfErr, IsSome};
-ghost use Rattle.yew_kinds.specs.Kinds.{IsKindInRange};
+ghost use Rattle.yew_kinds.specs.Kinds.{IsKindInRange, IsExact, gap_of};
 ghost use Rattle.yew_laws.specs.Fold.{Fold};
 ghost use Rattle.yew_laws.specs.SearchTree.{search_tree};
 ghost use Rattle.yew_walk.specs.LogViews.{log_view};
 ghost use Rattle.yew_walk.specs.PlainSearch.{searched_tree};
 ghost use Rattle.yew_words.specs.declared.plan.Skeleton.TheVariants as skeleton;
-ghost use Rattle.yew_app.specs.Asks.{IsAnySkeleton, IsAskable};
+ghost use Rattle.yew_app.specs.Asks.{IsAnySkeleton, IsAskable, IsOrdered};
 ghost use Rattle.yew_app.specs.Searches.{IsFound, IsSearchFault};
 ghost use Rattle.yew_app.specs.Ways.{IsShared, IsWayOf};
 
@@ -89,7 +89,7 @@ fn search_shared<P: Problem, T: Tally<P::Node>, R: Recorder, G: Gate, H: Threads
     requires shared { IsShared asked.skeleton coord }
     ensures found { IfOk result (λ found. let t = search_tree P.Problem problem.now in
         IsFound t (Fold t (T.join tally.now) (T.none tally.now) (T.of tally.now)) kind asked (λ log. log_view (R.told log) (R.totals log) (R.number log)) found) }
-    ensures fault { IfErr result (IsSearchFault (searched_tree (search_tree P.Problem problem.now) kind) asked ((log : R) × IsSome (R.told log))) }
+    ensures fault { IfErr result (IsSearchFault (searched_tree (search_tree P.Problem problem.now) kind) (gap_of kind) asked ((log : R) × IsSome (R.told log))) }
 {
     search_crew(
         crew.rt,
@@ -103,7 +103,8 @@ fn search_shared<P: Problem, T: Tally<P::Node>, R: Recorder, G: Gate, H: Threads
     )
 }
 
-/// Searches the tree of a problem by a crew whose tasks, at this depth, are claimed in the order of their numbers.
+/// Searches the tree of a problem by a crew whose tasks, at this depth, are claimed in the order of their numbers. No gap is
+/// permitted.
 ///
 /// # Errors
 ///
@@ -122,9 +123,10 @@ fn search_in_order<P: Problem, T: Tally<P::Node>, R: Recorder, G: Gate, H: Threa
     requires range { IsKindInRange kind }
     requires askable { IsAskable asked }
     requires in_order { asked.skeleton ≡ skeleton.Ordered depth }
+    requires exact { IsExact kind }
     ensures found { IfOk result (λ found. let t = search_tree P.Problem problem.now in
         IsFound t (Fold t (T.join tally.now) (T.none tally.now) (T.of tally.now)) kind asked (λ log. log_view (R.told log) (R.totals log) (R.number log)) found) }
-    ensures fault { IfErr result (IsSearchFault (searched_tree (search_tree P.Problem problem.now) kind) asked ((log : R) × IsSome (R.told log))) }
+    ensures fault { IfErr result (IsSearchFault (searched_tree (search_tree P.Problem problem.now) kind) (gap_of kind) asked ((log : R) × IsSome (R.told log))) }
 {
     search_ordered(
         crew.rt,
@@ -138,7 +140,8 @@ fn search_in_order<P: Problem, T: Tally<P::Node>, R: Recorder, G: Gate, H: Threa
     )
 }
 
-/// Searches the tree of a problem by a crew, or by one worker in preorder where that is asked for.
+/// Searches the tree of a problem by a crew, or by one worker in preorder where that is asked for. Where tasks are claimed in
+/// order no gap is permitted.
 ///
 /// # Errors
 ///
@@ -161,9 +164,10 @@ pub(crate) fn search_together<
     requires root { P.sound problem.now (P.root problem.now) }
     requires range { IsKindInRange kind }
     requires askable { IsAskable asked }
+    requires exact { IsOrdered asked.skeleton → IsExact kind }
     ensures found { IfOk result (λ found. let t = search_tree P.Problem problem.now in
         IsFound t (Fold t (T.join tally.now) (T.none tally.now) (T.of tally.now)) kind asked (λ log. log_view (R.told log) (R.totals log) (R.number log)) found) }
-    ensures fault { IfErr result (IsSearchFault (searched_tree (search_tree P.Problem problem.now) kind) asked ((log : R) × IsSome (R.told log))) }
+    ensures fault { IfErr result (IsSearchFault (searched_tree (search_tree P.Problem problem.now) kind) (gap_of kind) asked ((log : R) × IsSome (R.told log))) }
 {
     match way_of(asked.skeleton) {
         Way::Alone => search_alone(alloc, problem, kind, tally, asked),

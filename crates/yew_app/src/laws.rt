@@ -60,10 +60,10 @@ pub fn replicas_write_the_same()
 }
 
 /// The sequential log of a tree of at most 2^16 nodes, whose paths have at most 2^20 numbers together, is within the limits
-/// of an audit.
+/// of an audit, whatever gap is permitted.
 pub fn small_trees_fit<P: Problem>(problem: &P)
     requires { P.sound problem.now (P.root problem.now) }
-    ensures { let t = search_tree P.Problem problem.now in ¬ IsLarge t → ¬ MeetsLimits (seq_log t 0) }
+    ensures { let t = search_tree P.Problem problem.now in (gap : ℕ) → ¬ IsLarge t → ¬ MeetsLimits (seq_log t gap) }
 {
     let _ = problem;
 }

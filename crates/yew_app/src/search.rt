@@ -2,10 +2,11 @@
 
 ghost use Rattle.std.specs.Prelude.{◌≡◌, ◌≤◌, true, List, ℕ, IfSome, IfOk, IfErr, IsErrAnd, IsTrue, IsFalse, Some, None};
 ghost use Rattle.yew_io.specs.Faults.{Rose};
+ghost use Rattle.yew_kinds.specs.Kinds.{IsExact, gap_of};
 ghost use Rattle.yew_laws.specs.Fold.{Fold};
 ghost use Rattle.yew_laws.specs.SearchTree.{search_tree};
 ghost use Rattle.yew_walk.specs.LogViews.{log_view};
-ghost use Rattle.yew_app.specs.Asks.{IsSequential, IsAskable};
+ghost use Rattle.yew_app.specs.Asks.{IsSequential, IsOrdered, IsAskable};
 ghost use Rattle.yew_app.specs.Meanings.{known_files, searched, IsJobText, AnswersFiles, StopsFiles};
 ghost use Rattle.yew_app.specs.Reasons.{reason_of};
 ghost use Rattle.yew_app.specs.Refusals.{CannotRead};
@@ -72,6 +73,7 @@ pub(crate) fn solve_together<
     asked: Asked,
 ) -> Result<Vec<u8>, Refusal<'a>>
     requires askable { IsAskable asked }
+    requires exact { IsOrdered asked.skeleton → IsExact (J.meaning job.now).kind }
     ensures answers { let m = J.meaning job.now in
         IfOk result (λ text. IfSome (known_files m.names (S.files shelf.old)) (λ told. AnswersFiles m asked told text.items)) }
     ensures cause { let m = J.meaning job.now in
@@ -124,7 +126,7 @@ fn text_alone<J: SearchJob>(
     requires askable { IsAskable asked }
     requires done { IsSequential asked.skeleton }
     ensures text { IfOk result (λ text. IsJobText (J.meaning job.now) asked problem.now text.items) }
-    ensures fault { IfErr result (StopsSearch (searched (J.meaning job.now) problem.now) asked) }
+    ensures fault { IfErr result (StopsSearch (searched (J.meaning job.now) problem.now) (gap_of (J.meaning job.now).kind) asked) }
 {
     let tally = job.tally();
     if asked.audit {
@@ -154,8 +156,9 @@ fn text_together<J: SearchJob, G: Gate, H: Threads + Wait + Sync>(
     requires root { J.Instance.sound problem.now (J.Instance.root problem.now) }
     requires fit { J.fit job.now problem.now }
     requires askable { IsAskable asked }
+    requires exact { IsOrdered asked.skeleton → IsExact (J.meaning job.now).kind }
     ensures text { IfOk result (λ text. IsJobText (J.meaning job.now) asked problem.now text.items) }
-    ensures fault { IfErr result (StopsSearch (searched (J.meaning job.now) problem.now) asked) }
+    ensures fault { IfErr result (StopsSearch (searched (J.meaning job.now) problem.now) (gap_of (J.meaning job.now).kind) asked) }
 {
     let tally = job.tally();
     if asked.audit {

@@ -1,7 +1,7 @@
 //! Who searches: one worker in preorder, or a crew.
 
 ghost use Rattle.std.specs.Prelude.{◌≡◌, true, false, IfOk, IfErr, IsSome};
-ghost use Rattle.yew_kinds.specs.Kinds.{IsKindInRange};
+ghost use Rattle.yew_kinds.specs.Kinds.{IsKindInRange, gap_of};
 ghost use Rattle.yew_laws.specs.Fold.{Fold};
 ghost use Rattle.yew_laws.specs.SearchTree.{search_tree};
 ghost use Rattle.yew_walk.specs.LogViews.{log_view};
@@ -63,7 +63,7 @@ pub(crate) fn search_alone<P: Problem, T: Tally<P::Node>, R: Recorder>(
     requires done { IsSequential asked.skeleton }
     ensures found { IfOk result (λ found. let t = search_tree P.Problem problem.now in
         IsFound t (Fold t (T.join tally.now) (T.none tally.now) (T.of tally.now)) kind asked (λ log. log_view (R.told log) (R.totals log) (R.number log)) found) }
-    ensures fault { IfErr result (IsSearchFault (searched_tree (search_tree P.Problem problem.now) kind) asked ((log : R) × IsSome (R.told log))) }
+    ensures fault { IfErr result (IsSearchFault (searched_tree (search_tree P.Problem problem.now) kind) (gap_of kind) asked ((log : R) × IsSome (R.told log))) }
 {
     let _ = asked;
     search_plain(alloc, problem, kind, tally)

@@ -16,7 +16,8 @@ use yew_laws::{Memory, Path, Problem, rebuild};
 pub(crate) enum Solution<N, S> {
     /// The fold of all nodes.
     Count(S),
-    /// The greatest worth, and a node that has it; there is none exactly where the worth is 0.
+    /// The greatest worth, or one within a permitted gap of it, and a node that has it; there is none exactly where the
+    /// worth is 0.
     Best { worth: u64, node: Option<N> },
     /// A node that meets the target, where there is one.
     Reach(Option<N>),

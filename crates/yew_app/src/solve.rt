@@ -13,14 +13,14 @@ ghost use Rattle.yew_app.specs.Runs.{AnswersJob, StopsJob};
 
 use crate::asked::{Asked, plan_is_askable};
 use crate::crew::Crew;
-use crate::knapsack::KnapsackJob;
+use crate::knapsack::knapsack_of;
 use crate::made::text_of_made;
-use crate::plan::{both_files, only_file};
+use crate::plan::both_files;
 use crate::refusal::Refusal;
 use crate::search::{solve_alone, solve_together};
 use crate::semigroups::SemigroupsJob;
 use crate::subgraph::SubgraphJob;
-use crate::tours::ToursJob;
+use crate::tours::tours_of;
 use std::alloc::Global;
 use std::sync::Wait;
 use std::thread::Threads;
@@ -55,16 +55,11 @@ pub(crate) fn solve_plain<'a, S: Shelf<'a>>(
     };
     match plan.job {
         Job::Knapsack => {
-            let job = KnapsackJob {
-                name: only_file(plan),
-                target: plan.target,
-            };
+            let job = knapsack_of(plan);
             solve_alone(alloc, shelf, &job, asked)
         }
         Job::Tsp => {
-            let job = ToursJob {
-                name: only_file(plan),
-            };
+            let job = tours_of(plan);
             solve_alone(alloc, shelf, &job, asked)
         }
         Job::Subgraph => {
@@ -114,16 +109,11 @@ pub(crate) fn solve_by_crew<'a, S: Shelf<'a>, G: Gate, H: Threads + Wait + Sync>
     };
     match plan.job {
         Job::Knapsack => {
-            let job = KnapsackJob {
-                name: only_file(plan),
-                target: plan.target,
-            };
+            let job = knapsack_of(plan);
             solve_together(crew, alloc, shelf, &job, asked)
         }
         Job::Tsp => {
-            let job = ToursJob {
-                name: only_file(plan),
-            };
+            let job = tours_of(plan);
             solve_together(crew, alloc, shelf, &job, asked)
         }
         Job::Subgraph => {

@@ -1,6 +1,7 @@
 use Rattle.std.proofs.Common.{Some, subst, sym}
 use Rattle.std.specs.Prelude.{IsSome}
 use Rattle.yew_kinds.specs.declared.kind.Kind.{Kind}
+use Rattle.yew_kinds.specs.Kinds.{gap_of}
 use Rattle.yew_laws.specs.SearchTree.{SearchTree, search_tree}
 use Rattle.yew_log.specs.Logs.{FullLog}
 use Rattle.yew_walk.specs.PlainSearch.{searched_tree}
@@ -17,6 +18,6 @@ returns-then-asked-clause-fault g c =
     let fault = c.in-Err.fault in
     let asked = c.args.asked in
     let Tells : Type 0 = (log : FullLog) × IsSome (Some log.notes) in
-    subst (λ (u : SearchTree _). StopsSearch (searched_tree u m.kind) asked fault) (sym (g.met.J.SearchJob.tree_is c.args.job.now x))
-    (searched-stops t (g.J.Instance.Problem.ranked x) (g.J.Instance.Problem.bounded x) c.requires.root m.kind asked Tells fault c.if-asked.true
-    (subst (λ (k : Kind). IsSearchFault (searched_tree t k) asked Tells fault) c.kind.ensures.kind c.in-Err.ensures.fault))
+    subst (λ (u : SearchTree _). StopsSearch (searched_tree u m.kind) (gap_of m.kind) asked fault) (sym (g.met.J.SearchJob.tree_is c.args.job.now x))
+    (searched-stops t (g.J.Instance.Problem.ranked x) c.requires.root m.kind asked Tells fault c.if-asked.true
+    (subst (λ (k : Kind). IsSearchFault (searched_tree t k) (gap_of k) asked Tells fault) c.kind.ensures.kind c.in-Err.ensures.fault))
