@@ -22,7 +22,8 @@ use Rattle.yew_log.specs.Attained.{Attained, limit}
 use Rattle.yew_log.specs.Notes.{Judgement, paths, values, maximum}
 use Rattle.yew_walk.specs.Hands.{numbers_of}
 use Rattle.yew_walk.specs.PlainSearch.{NeverCuts}
-use Rattle.yew_crew.specs.CrewSearch.{IsNear, IsGreatest}
+use Rattle.yew_walk.specs.Answers.{IsNear}
+use Rattle.yew_crew.specs.CrewSearch.{IsGreatest}
 use Rattle.yew_crew.proofs.BestFinds.{nothing, IsNamedBy, IsBestOf}
 use Rattle.yew_crew.proofs.NearBest.{greatest-permitted, visited-greatest, maximum-least, contained-bounds}
 

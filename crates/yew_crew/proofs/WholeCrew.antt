@@ -15,7 +15,8 @@ use Rattle.yew_log.specs.WholeSearch.{IsBestVisit, joined}
 use Rattle.yew_walk.specs.Hands.{incumbent_of, numbers_of}
 use Rattle.yew_walk.specs.PlainSearch.{NeverCuts}
 use Rattle.yew_walk.specs.declared.hand.Hand.{Hand}
-use Rattle.yew_crew.specs.CrewSearch.{IsNear, HasCrewLogs}
+use Rattle.yew_walk.specs.Answers.{IsNear}
+use Rattle.yew_crew.specs.CrewSearch.{HasCrewLogs}
 use Rattle.yew_crew.specs.Gathering.{IsGathered}
 use Rattle.yew_crew.specs.Groups.{Group, taken, together, all_together, IsBalanced, IsClosed}
 use Rattle.yew_crew.specs.Crews.{AreWorked}
