@@ -47,7 +47,7 @@ use Rattle.yew_crew.proofs.Finished.{Finish, all_of}
 use Rattle.yew_crew.proofs.GroupLaws.{root-taken}
 use Rattle.yew_crew.proofs.KnownBefore.{known-before}
 use Rattle.yew_crew.proofs.LeftTasks.{pool-closed, mail-closed}
-use Rattle.yew_crew.proofs.NearBest.{at_path-sound}
+use Rattle.yew_walk.proofs.NearBest.{at_path-sound}
 use Rattle.yew_crew.proofs.RestEnds.{IsRestWork, AreDone, finishes}
 use Rattle.yew_crew.proofs.RestWork.{rest-work}
 use Rattle.yew_crew.proofs.WholeCrew.{IsCrewEnd, done-worked, all_of-groups}
@@ -107,14 +107,16 @@ module _ {N : Type 0} (t : SearchTree N) {sound : N → Type 0} (ranked : IsRank
 module _ {N S R : Type 0} (t : SearchTree N) (join : S → S → S) (none : S) (of : N → ℕ → S) (seen : R → LogView) (coord : Coord) (gap : ℕ) (shared : Shared N) where
   -- What holds of a station and what its worker made of it holds of all stations that reports hand back
   each-after : (Q : Station N S R → Type 0) → ((place made : ℕ) (put : List (Task N)) (b a : Station N S R) → IsBegun (members_of t) none seen shared place made put b → IsSameStation b a → Q a)
-      → (place : ℕ) (bs : List (Station N S R)) (rs : List (Report N S R)) → AreBegun (members_of t) none seen shared place bs → AreReports (searched t join none of seen coord gap) bs rs → AllByRecursion (λ (r : Report N S R). Q r.station) rs
+      → (place : ℕ) (bs : List (Station N S R)) (rs : List (Report N S R)) → AreBegun (members_of t) none seen shared place bs → AreReports (searched t join none of seen coord gap) bs rs
+      → AllByRecursion (λ (r : Report N S R). Q r.station) rs
   each-after Q f place [] [] b a = tt
   each-after Q f place [] (r ∷ rs) b a = absurd a
   each-after Q f place (x ∷ xs) [] b a = absurd a
   each-after Q f place (x ∷ xs) (r ∷ rs) b a = (f place 0 [] x r.station b.0 a.0.same, each-after Q f (suc place) xs rs b.1 a.1)
 
   pub reports-after : (Q : Station N S R → Type 0) → ((place made : ℕ) (put : List (Task N)) (b a : Station N S R) → IsBegun (members_of t) none seen shared place made put b → IsSameStation b a → Q a)
-      → (workers : ℕ) (bs : List (Station N S R)) (rs : List (Report N S R)) → IsCrew (members_of t) none seen shared workers bs → AreReports (searched t join none of seen coord gap) bs rs → AllByRecursion (λ (r : Report N S R). Q r.station) rs
+      → (workers : ℕ) (bs : List (Station N S R)) (rs : List (Report N S R)) → IsCrew (members_of t) none seen shared workers bs → AreReports (searched t join none of seen coord gap) bs rs
+      → AllByRecursion (λ (r : Report N S R). Q r.station) rs
   reports-after Q f workers bs [] crew are = tt
   reports-after Q f workers bs (r ∷ rs) crew are =
       let a = subst (λ (l : List (Station N S R)). AreReports (searched t join none of seen coord gap) l (r ∷ rs)) crew.stands are in

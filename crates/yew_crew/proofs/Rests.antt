@@ -89,7 +89,8 @@ resting table seat hand log took count = record {
   log = log;
 }
 
-module _ {P N K S R : Type 0} (meaning : Ghosts P N K) (problem : P) (join : S → S → S) (none : S) (of : N → ℕ → S) (seen : R → LogView) (gap : ℕ) {fits : S → Type 0} (tally : IsTally fits join none) (of_fits : (n : N) (depth : ℕ) → fits (of n depth)) (table : TableId) where
+module _ {P N K S R : Type 0} (meaning : Ghosts P N K) (problem : P) (join : S → S → S) (none : S) (of : N → ℕ → S) (seen : R → LogView) (gap : ℕ)
+    {fits : S → Type 0} (tally : IsTally fits join none) (of_fits : (n : N) (depth : ℕ) → fits (of n depth)) (table : TableId) where
   -- what is left of the tasks is still to be walked
   pub rest-begins : (b : SeatView) (h : Hand S) (l : R) (left : List (Task N)) → fits h.sum → 65535 ≤ h.path.space
       → IsWorking (searched (search_tree meaning problem) join none of seen (Depth 0) gap) (paths_of left) (resting table b h l [] 0) (resting table b h l left 0)

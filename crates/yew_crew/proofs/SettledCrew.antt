@@ -82,10 +82,12 @@ module _ {N S R : Type 0} (t : SearchTree N) (join : S → S → S) (none : S) (
       let passes : All (λ (p : PassView (Task N) (Members N)). p.members ≡ Some (members_of t)) (passes_of (stations_of reports)) =
       All-from_recursion (λ (p : PassView (Task N) (Members N)). p.members ≡ Some (members_of t)) (passes_of (stations_of reports))
       (AllByRecursion-map (λ (p : PassView (Task N) (Members N)). p.members ≡ Some (members_of t)) (λ (x : Station N S R). x.pool) (stations_of reports)
-      (all-after t join none of seen coord gap shared (λ x. x.pool.members ≡ Some (members_of t)) (λ place made put b a i same. same.pass_members ∙ ap (λ (p : PassView (Task N) (Members N)). p.members) i.pool_is) workers w.begun reports w.crew w.are_reports)) in
+      (all-after t join none of seen coord gap shared (λ x. x.pool.members ≡ Some (members_of t))
+      (λ place made put b a i same. same.pass_members ∙ ap (λ (p : PassView (Task N) (Members N)). p.members) i.pool_is) workers w.begun reports w.crew w.are_reports)) in
       let seats : AreFor (members_of t) (seats_of (stations_of reports)) =
       AllByRecursion-map (λ (m : MailSeatView (Task N) (Members N)). m.members ≡ Some (members_of t)) (λ (x : Station N S R). x.mail) (stations_of reports)
-      (all-after t join none of seen coord gap shared (λ x. x.mail.members ≡ Some (members_of t)) (λ place made put b a i same. same.mail_members ∙ ap (λ (m : MailSeatView (Task N) (Members N)). m.members) i.mail_is) workers w.begun reports w.crew w.are_reports) in
+      (all-after t join none of seen coord gap shared (λ x. x.mail.members ≡ Some (members_of t))
+      (λ place made put b a i same. same.mail_members ∙ ap (λ (m : MailSeatView (Task N) (Members N)). m.members) i.mail_is) workers w.begun reports w.crew w.are_reports) in
       let left : settled.left.items ≡ all.pool_left.rest ++ all.mail_left.rest = all.mail_left.appended ∙ ap (λ (l : List (Task N)). l ++ all.mail_left.rest) all.pool_left.appended in
       subst (AllByRecursion (IsAmong (members_of t))) (sym left)
       (AllByRecursion-append (IsAmong (members_of t)) all.pool_left.rest all.mail_left.rest

@@ -76,7 +76,8 @@ module _ {N S R : Type 0} (t : SearchTree N) (join : S → S → S) (none : S) (
 
   pub all-seats : AllByRecursion (λ (m : MailSeatView (Task N) (Members N)). m.mail ≡ shared.mail) (seats_of (stations_of reports))
   all-seats = AllByRecursion-map (λ (m : MailSeatView (Task N) (Members N)). m.mail ≡ shared.mail) (λ (x : Station N S R). x.mail) (stations_of reports)
-      (all-after t join none of seen coord gap shared (λ x. x.mail.mail ≡ shared.mail) (λ place made put b a is same. same.mail ∙ ap (λ (m : MailSeatView (Task N) (Members N)). m.mail) is.mail_is) workers w.begun reports w.crew w.are_reports)
+      (all-after t join none of seen coord gap shared (λ x. x.mail.mail ≡ shared.mail)
+      (λ place made put b a is same. same.mail ∙ ap (λ (m : MailSeatView (Task N) (Members N)). m.mail) is.mail_is) workers w.begun reports w.crew w.are_reports)
 
   pub whole-seats : sum_by (λ (m : MailSeatView (Task N) (Members N)). m.share) (seats_of (stations_of reports)) ≡ shared.mail.workers
   whole-seats = seats-share (stations_of reports)

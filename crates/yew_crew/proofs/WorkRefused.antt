@@ -63,7 +63,8 @@ module _ {N : Type 0} (t : SearchTree N) (gap : ℕ) where
         let all = segments ++ last ∷ [] in
         let is = gap-segments gap all in
         let keys = gap-rise gap all in
-        let on : SeatGoesOn t first (map (gap_walk gap) all) now = subst (λ l. SeatGoesOn t first l now) (sym (map-push (gap_walk gap) segments last)) (goes_on-push t (map (gap_walk gap) segments) first mid now (gap_walk gap last) goes more) in
+        let on : SeatGoesOn t first (map (gap_walk gap) all) now = subst (λ l. SeatGoesOn t first l now) (sym (map-push (gap_walk gap) segments last))
+        (goes_on-push t (map (gap_walk gap) segments) first mid now (gap_walk gap last) goes more) in
         let each_rises : AllByRecursion (λ x. HeldRises (entries_in x)) all = AllByRecursion-append _ segments (last ∷ []) (AllByRecursion-weaker (IsWalkSegment s) (λ x. HeldRises (entries_in x)) (λ x p. p.rises) segments walks) (rises, tt) in
         let each_due : AllByRecursion (λ x. IsJudged t gap plain (entries_in x)) all = AllByRecursion-append _ segments (last ∷ []) (judged segments walks) (due, tt) in
         let as_entries : entries all ≡ entries segments ++ entries_in last = entries-push segments last in
@@ -74,7 +75,8 @@ module _ {N : Type 0} (t : SearchTree N) (gap : ℕ) where
             each = AllByRecursion-append (IsBroken t) segments (last ∷ []) (brokens segments walks) (broken, tt);
             only_last = bodies-then [] segments last (wholes segments walks);
             held_rises = subst HeldRises as_entries (subst (λ l. HeldRises (entries l)) is (walks-rise t (map (gap_walk gap) all) first now on keys (all-gap gap (λ x. HeldRises (entries_in x)) all each_rises)));
-            due = subst (IsJudged t gap plain) as_entries (subst (λ l. IsJudged t gap plain (entries l)) is (walks-judged t gap plain (map (gap_walk gap) all) first now (gap-each gap all) on keys (all-gap gap (λ x. IsJudged t gap plain (entries_in x)) all each_due)));
+            due = subst (IsJudged t gap plain) as_entries (subst (λ l. IsJudged t gap plain (entries l)) is
+                (walks-judged t gap plain (map (gap_walk gap) all) first now (gap-each gap all) on keys (all-gap gap (λ x. IsJudged t gap plain (entries_in x)) all each_due)));
           };
           alone = λ none whole. subst HeldIsMaximum as_entries (subst (λ l. HeldIsMaximum (entries l)) is (walks-exact t (map (gap_walk gap) all) first now on keys none whole));
         }
@@ -90,14 +92,17 @@ module _ {N : Type 0} (t : SearchTree N) (gap : ℕ) where
             cut_up = refl;
             each = brokens segments walks;
             only_last = whole-bodies t [] segments (wholes segments walks);
-            held_rises = subst (λ l. HeldRises (entries l)) is (walks-rise t (map (gap_walk gap) segments) first now on keys (all-gap gap (λ x. HeldRises (entries_in x)) segments (AllByRecursion-weaker (IsWalkSegment s) (λ x. HeldRises (entries_in x)) (λ x p. p.rises) segments walks)));
-            due = subst (λ l. IsJudged t gap plain (entries l)) is (walks-judged t gap plain (map (gap_walk gap) segments) first now (gap-each gap segments) on keys (all-gap gap (λ x. IsJudged t gap plain (entries_in x)) segments (judged segments walks)));
+            held_rises = subst (λ l. HeldRises (entries l)) is (walks-rise t (map (gap_walk gap) segments) first now on keys
+                (all-gap gap (λ x. HeldRises (entries_in x)) segments (AllByRecursion-weaker (IsWalkSegment s) (λ x. HeldRises (entries_in x)) (λ x p. p.rises) segments walks)));
+            due = subst (λ l. IsJudged t gap plain (entries l)) is
+                (walks-judged t gap plain (map (gap_walk gap) segments) first now (gap-each gap segments) on keys (all-gap gap (λ x. IsJudged t gap plain (entries_in x)) segments (judged segments walks)));
           };
           alone = λ none whole. subst (λ l. HeldIsMaximum (entries l)) is (walks-exact t (map (gap_walk gap) segments) first now on keys none whole);
         }
 
     -- whole segments, and what was noted of one more task before the walk was refused
-    pub broken-work : (task : List ℕ) (first mid now : SeatView) (segments : List Segment) (notes : List Note) → AllByRecursion (IsWalkSegment s) segments → SeatGoesOn t first (map (gap_walk gap) segments) mid → SeatGoes t (Gap gap) mid notes now → IsBrokenWalk t gap plain task notes
+    pub broken-work : (task : List ℕ) (first mid now : SeatView) (segments : List Segment) (notes : List Note) → AllByRecursion (IsWalkSegment s) segments
+        → SeatGoesOn t first (map (gap_walk gap) segments) mid → SeatGoes t (Gap gap) mid notes now → IsBrokenWalk t gap plain task notes
         → (last : SeatView) × IsBrokenWork first last (entries segments ++ notes)
     broken-work task first mid now segments notes walks goes more b = by b.of_task
       where
