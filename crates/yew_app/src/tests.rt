@@ -3,6 +3,7 @@
 mod audits;
 mod crews;
 mod faults;
+mod gaps;
 mod graphs;
 mod hostile;
 mod knapsack;
