@@ -10,15 +10,16 @@ use Rattle.yew_log.specs.Notes.{Note, path_of}
 use Rattle.yew_log.specs.Recording.{IsFull}
 use Rattle.yew_log.specs.SeqLog.{seq_log}
 use Rattle.yew_log.proofs.KnownPaths.{IsBrokenWalk-known}
-use Rattle.yew_walk.specs.declared.keying.Keying.TheVariants.{Plain}
+use Rattle.yew_walk.specs.declared.keying.Keying.{Keying}
+use Rattle.yew_walk.specs.Keys.{kind_of}
 use Rattle.yew_walk.specs.Seats.{SeatGoes}
 use Rattle.yew_walk.proofs.PlainLogs.{SeatGoes-maximum}
 
-module _ {N : Type 0} (t : SearchTree N) where
+module _ {N : Type 0} (t : SearchTree N) (gap : ℕ) where
   -- a sequential walk whose log had no room for its next entry
-  pub audit_full-sequential : (notes : List Note) (next : Note) (entries numbers : ℕ) → IsFull (Some notes) (path_of next) entries numbers → IsBrokenWalk t 0 plain [] notes → IsBrokenWalk t 0 plain [] (notes ++ next ∷ []) → HeldIsMaximum notes → (rest : List Note) × (seq_log t 0 ≡ (notes ++ next ∷ []) ++ rest) → IsAuditFull t 0 sequential 1 entries numbers
+  pub audit_full-sequential : (notes : List Note) (next : Note) (entries numbers : ℕ) → IsFull (Some notes) (path_of next) entries numbers → IsBrokenWalk t gap plain [] notes → IsBrokenWalk t gap plain [] (notes ++ next ∷ []) → HeldIsMaximum notes → (rest : List Note) × (seq_log t gap ≡ (notes ++ next ∷ []) ++ rest) → IsAuditFull t gap sequential 1 entries numbers
   audit_full-sequential notes next entries numbers full walk longer held (rest, is) =
-      let known = IsBrokenWalk-known t 0 plain [] (notes ++ next ∷ []) longer in
+      let known = IsBrokenWalk-known t gap plain [] (notes ++ next ∷ []) longer in
       record {
         notes = notes;
         next = next;
@@ -30,6 +31,6 @@ module _ {N : Type 0} (t : SearchTree N) where
         sequential_next = λ same. (rest, is ∙ append_assoc notes (next ∷ []) rest);
       }
 
--- along a seat with the whole share, which has offered nothing before, each held value is the greatest worth before it
-pub goes-held_is_maximum : {N : Type 0} (t : SearchTree N) (first now : SeatView) (notes : List Note) → SeatGoes t Plain first notes now → first.offered ≡ [] → first.share ≡ first.best.seats → HeldIsMaximum notes
-goes-held_is_maximum t first now notes goes nothing whole = SeatGoes-maximum t first now [] notes whole nothing goes
+-- along a seat with the whole share and plain keys, which has offered nothing before, each held value is the greatest worth before it
+pub goes-held_is_maximum : {N : Type 0} (t : SearchTree N) (keying : Keying) → kind_of keying ≡ plain → (first now : SeatView) (notes : List Note) → SeatGoes t keying first notes now → first.offered ≡ [] → first.share ≡ first.best.seats → HeldIsMaximum notes
+goes-held_is_maximum t keying is_plain first now notes goes nothing whole = SeatGoes-maximum t keying is_plain first now [] notes whole nothing goes

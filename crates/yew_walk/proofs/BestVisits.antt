@@ -1,5 +1,5 @@
 -- The best of the visits of the one sequential log: the greatest worth of the tree, and its first path.
-use Rattle.std.proofs.Common.{◌≡◌, ℕ, zero, suc, ◌<◌, ◌≤◌, List, [], ◌∷◌, ◌++◌, max, Bool, true, false, Option, Some, None, nat_le, nat_lt, if◌then◌else◌, refl, ap, ap₂, sym, subst, ◌∙◌, append-nil, arith, leb-true}
+use Rattle.std.proofs.Common.{◌≡◌, ℕ, zero, suc, ◌<◌, ◌≤◌, List, [], ◌∷◌, ◌++◌, max, Bool, true, false, Option, Some, None, nat_le, nat_lt, if◌then◌else◌, refl, ap, ap₂, sym, subst, ◌∙◌, ◌==◌, append-nil, arith, leb-true}
 use Rattle.std.specs.List.{AllByRecursion}
 use Rattle.std.proofs.lemmas.Bool.Decides.{nat_tests}
 use Rattle.std.proofs.lemmas.List.Concat.{flat_map-append}
@@ -11,22 +11,35 @@ use Rattle.yew_laws.proofs.Incumbents.{incumbent_after-tree, incumbent_after-cut
 use Rattle.yew_laws.proofs.Members.{AllByRecursion-weaker}
 use Rattle.yew_log.specs.Attained.{limit}
 use Rattle.yew_log.specs.Items.{in_turn}
+use Rattle.yew_log.specs.HeldValues.{plain}
 use Rattle.yew_log.specs.Notes.{Note, visited, cut, ended, Judgement, judgement, visits, values, visit_in, maximum}
 use Rattle.yew_log.specs.SeqLog.{visited_worth, visit_notes, seq_log}
 use Rattle.yew_walk.specs.declared.keying.Keying.{Keying}
 use Rattle.yew_walk.specs.declared.keying.Keying.TheVariants.{Plain}
 use Rattle.yew_walk.specs.Hands.{best_after}
-use Rattle.yew_walk.specs.Keys.{answer_key}
+use Rattle.yew_walk.specs.Keys.{answer_key, kind_of}
+use Rattle.yew_walk.proofs.KeyOrder.{key_of-plain, limit-none}
 
 -- under the plain key an answer's key is its worth
 pub answer_key-plain : (worth : ℕ) → answer_key Plain worth ≡ worth
 answer_key-plain worth = grind (arith, nat_tests)
 
+-- and so under each key that is the worth
+pub answer_key-worth : (keying : Keying) (worth : ℕ) → kind_of keying ≡ plain → answer_key keying worth ≡ worth
+answer_key-worth keying worth is = ap (λ key. if worth == 0 then 0 else key) (key_of-plain keying worth is) ∙ answer_key-plain worth
+
 pub best_after-append : (keying : Keying) (incumbent : Incumbent) (us vs : List Judgement) → best_after keying incumbent (us ++ vs) ≡ best_after keying (best_after keying incumbent us) vs
 best_after-append keying incumbent [] vs = refl
 best_after-append keying incumbent (u ∷ us) vs = best_after-append keying (improved incumbent (answer_key keying u.value) u.path) us vs
 
-improved-worth : (incumbent : Incumbent) (w : ℕ) (path : List ℕ) → (improved incumbent w path).worth ≡ max incumbent.worth w
+-- the best visit is the same under each key that is the worth
+pub best_after-plain : (keying : Keying) (incumbent : Incumbent) (vs : List Judgement) → kind_of keying ≡ plain → best_after keying incumbent vs ≡ best_after Plain incumbent vs
+best_after-plain keying incumbent [] is = refl
+best_after-plain keying incumbent (v ∷ vs) is =
+    best_after-plain keying (improved incumbent (answer_key keying v.value) v.path) vs is
+    ∙ ap (λ key. best_after Plain (improved incumbent key v.path) vs) (answer_key-worth keying v.value is ∙ sym (answer_key-plain v.value))
+
+pub improved-worth : (incumbent : Incumbent) (w : ℕ) (path : List ℕ) → (improved incumbent w path).worth ≡ max incumbent.worth w
 improved-worth incumbent w path =
     elim (nat_lt incumbent.worth w) as (λ b. nat_lt incumbent.worth w ≡ b → (if b then record { worth = w; path = Some path } else incumbent).worth ≡ max incumbent.worth w) [ true ↦ λ e. grind (arith, nat_tests) | false ↦ λ e. grind (arith, nat_tests) ] refl
 
@@ -38,9 +51,6 @@ best_after-worth incumbent (v ∷ vs) =
     let first : (improved incumbent (answer_key Plain v.value) v.path).worth ≡ max incumbent.worth (answer_key Plain v.value) = improved-worth incumbent (answer_key Plain v.value) v.path in
     let rest = best_after-worth (improved incumbent (answer_key Plain v.value) v.path) vs in
     omega (arith, key, first, rest)
-
-limit-zero : (held : ℕ) → limit 0 held ≡ held
-limit-zero held = grind (arith, nat_tests)
 
 -- the visits of the entries of a node: its own, and those inside
 visits-closed : (path : List ℕ) (worth held : ℕ) (inside : List Note) → visits (visited path worth held ∷ inside ++ ended path ∷ []) ≡ judgement path worth held ∷ visits inside
@@ -77,7 +87,7 @@ module _ {N : Type 0} (t : SearchTree N) {sound : N → Type 0} (ranked : IsRank
   -- a child that is cut changes nothing
   cut-best : (path : List ℕ) (c : N) (incumbent : Incumbent) → sound c → t.bound c ≤ limit 0 incumbent.worth → IsTreeBest path c incumbent (cut path (t.bound c) incumbent.worth ∷ [])
   cut-best path c incumbent s small =
-      let same = limit-zero incumbent.worth in
+      let same = limit-none incumbent.worth in
       sym (incumbent_after-cut ranked bounded incumbent path c s (omega (arith, small, same)))
 
   module _ (levels : ℕ) (made : List ℕ → N → ℕ → List Note) (each : (path : List ℕ) (c : N) (incumbent : Incumbent) → sound c → t.rank c ≤ levels → IsTreeBest path c incumbent (made path c incumbent.worth)) where

@@ -12,6 +12,7 @@ use Rattle.yew_laws.specs.Tree.{Member, IsRanked, node_at}
 use Rattle.yew_laws.proofs.Bags.{same-refl, same-is}
 use Rattle.yew_laws.proofs.Folds.{fold-fits}
 use Rattle.yew_laws.proofs.Trees.{tree-unfolds, node_at-rank}
+use Rattle.yew_log.specs.HeldValues.{plain}
 use Rattle.yew_log.specs.Notes.{Note, taken, visited}
 use Rattle.yew_log.specs.Policies.{PolicyMeaning, PolicyGroup, PolicyInput, policy_inputs}
 use Rattle.yew_log.proofs.PolicyRows.{state_after}
@@ -21,12 +22,12 @@ use Rattle.yew_stack.specs.ToCome.{to_come, node_tree, turns_left, IsOpen, AllOp
 use Rattle.yew_stack.specs.Turns.{TopGives, TopEnds}
 use Rattle.yew_stack.proofs.Coming.{AllByRecursion-push, gives-turns_left, push-turns_left, ends-turns_left}
 use Rattle.yew_walk.specs.declared.keying.Keying.{Keying}
-use Rattle.yew_walk.specs.declared.keying.Keying.TheVariants.{Plain, Ranked}
 use Rattle.yew_walk.specs.declared.hand.Hand.{Hand}
 use Rattle.yew_walk.specs.declared.policy.Event.{Event}
 use Rattle.yew_walk.specs.declared.policy.Event.TheVariants.{Visited, CutOff, Ended}
 use Rattle.yew_walk.specs.Entering.{Enters}
 use Rattle.yew_walk.specs.Hands.{incumbent_of}
+use Rattle.yew_walk.specs.Keys.{kind_of, gap_in}
 use Rattle.yew_walk.specs.LogViews.{LogView, log_after}
 use Rattle.yew_walk.specs.Outlets.{OutletCall}
 use Rattle.yew_walk.specs.Scenes.{Scene, sum_after, IsWalking, IsWalked}
@@ -36,6 +37,7 @@ use Rattle.yew_walk.specs.SeqRests.{IsInSequence}
 use Rattle.yew_walk.specs.UnderWay.{IsUnderWay}
 use Rattle.yew_walk.specs.Verdicts.{IsVisit}
 use Rattle.yew_walk.proofs.DealtLevels.{dealt-first_visit, dealt-first_cut}
+use Rattle.yew_walk.proofs.KeyOrder.{held_of-plain}
 use Rattle.yew_walk.proofs.OutletCalls.{calls-taken}
 use Rattle.yew_walk.proofs.PolicyInputs.{policy-start}
 use Rattle.yew_walk.proofs.SeqRests.{sequence-start}
@@ -143,22 +145,22 @@ module _ {S N K Sum Q : Type 0} (meaning : Ghosts S N K) (problem : S) (keying :
   none-given (Some answers) = ap (λ (a : List Bool). Some a) (sym (append-nil answers))
 
   -- the root was visited first
-  first-visit : (k : Keying) → k ≡ Plain → IsRanked (meaning.sound problem) (meaning.children problem) (meaning.rank problem) → meaning.sound problem (meaning.root problem) → (first now after : SeatView) (node : N) (worth held : ℕ) → IsTask meaning problem task node → now ≡ first → task ≡ [] → first.offered ≡ [] → first.share ≡ first.best.seats → IsVisit meaning problem k task node worth held now after → IsInSequence t (visited task worth held ∷ []) (record { parent = task; given = 0; remaining = meaning.children problem node } ∷ [])
-  first-visit Plain plain ranked root first now after node worth held is same of_root nothing whole v =
+  first-visit : kind_of keying ≡ plain → IsRanked (meaning.sound problem) (meaning.children problem) (meaning.rank problem) → meaning.sound problem (meaning.root problem) → (first now after : SeatView) (node : N) (worth held : ℕ) → IsTask meaning problem task node → now ≡ first → task ≡ [] → first.offered ≡ [] → first.share ≡ first.best.seats → IsVisit meaning problem keying task node worth held now after → IsInSequence t (gap_in keying) (visited task worth held ∷ []) (record { parent = task; given = 0; remaining = meaning.children problem node } ∷ [])
+  first-visit is_plain ranked root first now after node worth held is same of_root nothing whole v =
       let stands : Some (meaning.root problem) ≡ Some node = subst (λ p. node_at (meaning.children problem) (meaning.root problem) p ≡ Some node) of_root is.found in
       let is_root : meaning.root problem ≡ node = cc in
-      let none : held ≡ 0 = v.held_is ∙ zero-word (subst (λ s. IsRead s v.word) same v.is_read) in
-      subst (λ p. IsInSequence t (visited p worth held ∷ []) (record { parent = p; given = 0; remaining = meaning.children problem node } ∷ [])) (sym of_root)
-      (subst (λ h. IsInSequence t (visited [] worth h ∷ []) (record { parent = []; given = 0; remaining = meaning.children problem node } ∷ [])) (sym none)
-      (subst (λ w. IsInSequence t (visited [] w 0 ∷ []) (record { parent = []; given = 0; remaining = meaning.children problem node } ∷ [])) (sym v.worth_is)
-      (subst (λ n. IsInSequence t (visited [] (meaning.worth problem n) 0 ∷ []) (record { parent = []; given = 0; remaining = meaning.children problem n } ∷ [])) is_root (sequence-start t ranked root))))
+      let gap = gap_in keying in
+      let none : held ≡ 0 = v.held_is ∙ held_of-plain keying v.word is_plain ∙ zero-word (subst (λ s. IsRead s v.word) same v.is_read) in
+      subst (λ p. IsInSequence t gap (visited p worth held ∷ []) (record { parent = p; given = 0; remaining = meaning.children problem node } ∷ [])) (sym of_root)
+      (subst (λ h. IsInSequence t gap (visited [] worth h ∷ []) (record { parent = []; given = 0; remaining = meaning.children problem node } ∷ [])) (sym none)
+      (subst (λ w. IsInSequence t gap (visited [] w 0 ∷ []) (record { parent = []; given = 0; remaining = meaning.children problem node } ∷ [])) (sym v.worth_is)
+      (subst (λ n. IsInSequence t gap (visited [] (meaning.worth problem n) 0 ∷ []) (record { parent = []; given = 0; remaining = meaning.children problem n } ∷ [])) is_root (sequence-start t gap ranked root))))
     where
       none-offered : Contains [] v.word → ⊥
       none-offered c = let below = c.1 in absurd (omega (arith, below))
 
       zero-word : IsRead first v.word → v.word ≡ 0
       zero-word r = elim (r.whole whole) [ inl zero ↦ zero | inr offered ↦ absurd (none-offered (subst (λ xs. Contains xs v.word) nothing offered)) ]
-  first-visit (Ranked rank) plain ranked root first now after node worth held is same of_root nothing whole v = absurd (cc)
 
   -- the task's node is next, and nothing was done yet
   pub awaits-start : {did : List OutletCall → Type 0} → IsRanked (meaning.sound problem) (meaning.children problem) (meaning.rank problem) → meaning.sound problem (meaning.root problem) → (first now : Scene N Sum Q) (node : N) → IsTask meaning problem task node → now.seat ≡ first.seat → now.hand ≡ first.hand → now.sent ≡ first.sent → now.answers ≡ first.answers → now.state ≡ policy.start first.state → now.log ≡ log_after first.log (taken task ∷ []) → did [] → AwaitsNode meaning problem keying join of policy task did first now [] task node
@@ -174,7 +176,7 @@ module _ {S N K Sum Q : Type 0} (meaning : Ghosts S N K) (problem : S) (keying :
     state_is = sym started;
     if_visited = λ worth held. dealt-first_visit t task worth held node is.found;
     if_cut = λ bound held. dealt-first_cut t task bound held;
-    in_visit = λ alone worth held after v. first-visit keying alone.plain_keys ranked root first.seat now.seat after node worth held is same_seat alone.of_root alone.none_offered alone.whole_share v;
+    in_visit = λ alone worth held after v. first-visit alone.plain_keys ranked root first.seat now.seat after node worth held is same_seat alone.of_root alone.none_offered alone.whole_share v;
     in_cut = λ alone bound held after v. absurd (v.inner alone.of_root);
     log_is = logged;
     are_visited = record { paths_are = refl; there = tt };

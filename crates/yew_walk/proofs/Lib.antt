@@ -4,6 +4,7 @@ pub mod BestVisits
 pub mod Bests
 pub mod DealtLevels
 pub mod Endings
+pub mod FirstFinds
 pub mod KeyOrder
 pub mod LowestLevels
 pub mod Noted

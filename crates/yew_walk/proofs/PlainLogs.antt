@@ -19,8 +19,9 @@ use Rattle.yew_log.proofs.Growth.{worths-append}
 use Rattle.yew_log.proofs.Places.{AtEach-weaker}
 use Rattle.yew_log.proofs.SeqUnique.{seq_log-unique}
 use Rattle.yew_walk.specs.declared.keying.Keying.{Keying}
-use Rattle.yew_walk.specs.declared.keying.Keying.TheVariants.{Plain}
+use Rattle.yew_walk.specs.Keys.{key_of, held_of, kind_of}
 use Rattle.yew_walk.specs.Seats.{IsRead, SeatGoes, has_offered}
+use Rattle.yew_walk.proofs.KeyOrder.{key_of-plain, held_of-plain}
 
 maximum-least : (ns : List ℕ) (w : ℕ) → AllByRecursion (λ n. n ≤ w) ns → maximum ns ≤ w
 maximum-least [] w a = omega arith
@@ -53,16 +54,25 @@ same-worths : (before : List Note) (note : Note) → values (visits (note ∷ []
 same-worths before note none = sym (append-nil (values (visits before))) ∙ ap (λ ws. values (visits before) ++ ws) (sym none) ∙ sym (worths-append before (note ∷ []))
 
 -- a seat with the whole share that has offered the worths of the visits before: each held value is the greatest of them
-pub SeatGoes-maximum : {N : Type 0} (t : SearchTree N) (old new : SeatView) (before notes : List Note) → old.share ≡ old.best.seats → old.offered ≡ values (visits before) → SeatGoes t Plain old notes new → AtEach (λ b n a. AllByRecursion (λ j. j.held ≡ maximum (values (visits b))) (judgement_in n)) before notes
-SeatGoes-maximum t old new before [] whole worths goes = tt
-SeatGoes-maximum t old new before (visited path worth held ∷ notes) whole worths (word, read, goes) =
-    ((read.held_is ∙ IsRead-maximum old word whole read.is_read ∙ ap maximum worths, tt), SeatGoes-maximum t (has_offered (has_read old word) worth) new (before ++ visited path worth held ∷ []) notes whole (offered-visit old.offered before path worth held worths) goes)
-SeatGoes-maximum t old new before (cut path bound held ∷ notes) whole worths (word, read, goes) =
-    ((read.held_is ∙ IsRead-maximum old word whole read.is_read ∙ ap maximum worths, tt), SeatGoes-maximum t (has_read old word) new (before ++ cut path bound held ∷ []) notes whole (worths ∙ same-worths before (cut path bound held) refl) goes)
-SeatGoes-maximum t old new before (taken path ∷ notes) whole worths goes = (tt, SeatGoes-maximum t old new (before ++ taken path ∷ []) notes whole (worths ∙ same-worths before (taken path) refl) goes)
-SeatGoes-maximum t old new before (spawned path ∷ notes) whole worths goes = (tt, SeatGoes-maximum t old new (before ++ spawned path ∷ []) notes whole (worths ∙ same-worths before (spawned path) refl) goes)
-SeatGoes-maximum t old new before (handed path ∷ notes) whole worths goes = (tt, SeatGoes-maximum t old new (before ++ handed path ∷ []) notes whole (worths ∙ same-worths before (handed path) refl) goes)
-SeatGoes-maximum t old new before (ended path ∷ notes) whole worths goes = (tt, SeatGoes-maximum t old new (before ++ ended path ∷ []) notes whole (worths ∙ same-worths before (ended path) refl) goes)
+module _ {N : Type 0} (t : SearchTree N) (keying : Keying) (is_plain : kind_of keying ≡ plain) where
+  held-maximum : (old : SeatView) (before : List Note) (word held : ℕ) → old.share ≡ old.best.seats → old.offered ≡ values (visits before) → IsRead old word → held ≡ held_of keying word → held ≡ maximum (values (visits before))
+  held-maximum old before word held whole worths read is = is ∙ held_of-plain keying word is_plain ∙ IsRead-maximum old word whole read ∙ ap maximum worths
+
+  pub SeatGoes-maximum : (old new : SeatView) (before notes : List Note) → old.share ≡ old.best.seats → old.offered ≡ values (visits before) → SeatGoes t keying old notes new → AtEach (λ b n a. AllByRecursion (λ j. j.held ≡ maximum (values (visits b))) (judgement_in n)) before notes
+  SeatGoes-maximum old new before [] whole worths goes = tt
+  SeatGoes-maximum old new before (visited path worth held ∷ notes) whole worths (word, read, goes) = (
+    (held-maximum old before word held whole worths read.is_read read.held_is, tt),
+    SeatGoes-maximum (has_offered (has_read old word) (key_of keying worth)) new (before ++ visited path worth held ∷ []) notes whole
+        (ap (λ key. old.offered ++ key ∷ []) (key_of-plain keying worth is_plain) ∙ offered-visit old.offered before path worth held worths) goes,
+  )
+  SeatGoes-maximum old new before (cut path bound held ∷ notes) whole worths (word, read, goes) = (
+    (held-maximum old before word held whole worths read.is_read read.held_is, tt),
+    SeatGoes-maximum (has_read old word) new (before ++ cut path bound held ∷ []) notes whole (worths ∙ same-worths before (cut path bound held) refl) goes,
+  )
+  SeatGoes-maximum old new before (taken path ∷ notes) whole worths goes = (tt, SeatGoes-maximum old new (before ++ taken path ∷ []) notes whole (worths ∙ same-worths before (taken path) refl) goes)
+  SeatGoes-maximum old new before (spawned path ∷ notes) whole worths goes = (tt, SeatGoes-maximum old new (before ++ spawned path ∷ []) notes whole (worths ∙ same-worths before (spawned path) refl) goes)
+  SeatGoes-maximum old new before (handed path ∷ notes) whole worths goes = (tt, SeatGoes-maximum old new (before ++ handed path ∷ []) notes whole (worths ∙ same-worths before (handed path) refl) goes)
+  SeatGoes-maximum old new before (ended path ∷ notes) whole worths goes = (tt, SeatGoes-maximum old new (before ++ ended path ∷ []) notes whole (worths ∙ same-worths before (ended path) refl) goes)
 
 plain_act : (inputs : List PolicyInput) → last_act plain_policy tt inputs ≡ on
 plain_act [] = refl
@@ -82,31 +92,32 @@ module _ {N : Type 0} (t : SearchTree N) where
       groups
 
   -- the Taken entry stands in front, and a seat goes along the rest as along all
-  pub plain_walk-taken : {rule : List Note → Note → List Note → Type 0} (keying : Keying) (task : List ℕ) (notes : List Note) (old new : SeatView) → IsWalk t 0 plain rule task notes → SeatGoes t keying old notes new → (body : List Note) × (notes ≡ taken task ∷ body) × SeatGoes t keying old body new
-  plain_walk-taken keying task notes old new w goes =
+  pub plain_walk-taken : (gap : ℕ) {rule : List Note → Note → List Note → Type 0} (keying : Keying) (task : List ℕ) (notes : List Note) (old new : SeatView) → IsWalk t gap plain rule task notes → SeatGoes t keying old notes new → (body : List Note) × (notes ≡ taken task ∷ body) × SeatGoes t keying old body new
+  plain_walk-taken gap keying task notes old new w goes =
       let is : notes ≡ taken task ∷ w.body = w.one_segment ∙ ap (λ ns. taken task ∷ ns) (append-nil w.body) in
       (w.body, is, subst (λ ns. SeatGoes t keying old ns new) is goes)
 
-  -- a walk of the root with no groups, by a seat that has offered nothing and has the whole share, is a lawful log of one worker
-  pub plain_walk-lawful : (answers : List Bool) (notes : List Note) (old new : SeatView) → IsWalk t 0 plain (PolicyGroup t plain_policy tt answers) [] notes → SeatGoes t Plain old notes new → old.offered ≡ [] → old.share ≡ old.best.seats → LawfulLog t 0 sequential 1 1 notes
-  plain_walk-lawful answers notes old new w goes nothing whole = record {
-    segments = segment [] w.body ∷ [];
-    cut_up = w.one_segment;
-    each = w.keeps.each;
-    groups = record {
-      own = segment [] w.body ∷ [];
-      rest = [];
-      own_first = refl;
-      groups = (plain_policy-groups answers w.body w.keeps.groups.0, tt);
-      rest_segments = tt;
-      may_rest = inl refl;
-      shape = (refl, refl);
-    };
-    held_rises = subst HeldRises (sym w.one_segment) w.keeps.held_rises;
-    due = subst (IsJudged t 0 plain) (sym w.one_segment) w.keeps.due;
-    alone = λ one. SeatGoes-maximum t old new [] notes whole nothing goes;
-  }
+  module _ (gap : ℕ) (keying : Keying) (is_plain : kind_of keying ≡ plain) where
+    -- a walk of the root with no groups, by a seat that has offered nothing and has the whole share, is a lawful log of one worker
+    pub plain_walk-lawful : (answers : List Bool) (notes : List Note) (old new : SeatView) → IsWalk t gap plain (PolicyGroup t plain_policy tt answers) [] notes → SeatGoes t keying old notes new → old.offered ≡ [] → old.share ≡ old.best.seats → LawfulLog t gap sequential 1 1 notes
+    plain_walk-lawful answers notes old new w goes nothing whole = record {
+      segments = segment [] w.body ∷ [];
+      cut_up = w.one_segment;
+      each = w.keeps.each;
+      groups = record {
+        own = segment [] w.body ∷ [];
+        rest = [];
+        own_first = refl;
+        groups = (plain_policy-groups answers w.body w.keeps.groups.0, tt);
+        rest_segments = tt;
+        may_rest = inl refl;
+        shape = (refl, refl);
+      };
+      held_rises = subst HeldRises (sym w.one_segment) w.keeps.held_rises;
+      due = subst (IsJudged t gap plain) (sym w.one_segment) w.keeps.due;
+      alone = λ one. SeatGoes-maximum t keying is_plain old new [] notes whole nothing goes;
+    }
 
-  -- and so it is the one sequential log
-  pub plain_walk-seq_log : {sound : N → Type 0} → IsRanked sound t.children t.rank → sound t.root → (answers : List Bool) (notes : List Note) (old new : SeatView) → IsWalk t 0 plain (PolicyGroup t plain_policy tt answers) [] notes → SeatGoes t Plain old notes new → old.offered ≡ [] → old.share ≡ old.best.seats → notes ≡ seq_log t 0
-  plain_walk-seq_log ranked root answers notes old new w goes nothing whole = seq_log-unique t 0 ranked root 1 1 notes (plain_walk-lawful answers notes old new w goes nothing whole)
+    -- and so it is the one sequential log
+    pub plain_walk-seq_log : {sound : N → Type 0} → IsRanked sound t.children t.rank → sound t.root → (answers : List Bool) (notes : List Note) (old new : SeatView) → IsWalk t gap plain (PolicyGroup t plain_policy tt answers) [] notes → SeatGoes t keying old notes new → old.offered ≡ [] → old.share ≡ old.best.seats → notes ≡ seq_log t gap
+    plain_walk-seq_log ranked root answers notes old new w goes nothing whole = seq_log-unique t gap ranked root 1 1 notes (plain_walk-lawful answers notes old new w goes nothing whole)

@@ -24,7 +24,7 @@ module _ {N : Type 0} (t : SearchTree N) {sound : N → Type 0} (ranked : IsRank
     -- where no node is an answer and none is cut, the nodes that were visited are those of the tree
     pub LawfulLog-members : members ≡ preorder t
     LawfulLog-members =
-        AreVisited-preorder t no_answer promising ranked root members
+        AreVisited-preorder t no_answer promising 0 ranked root members
         (subst (λ ns. AreVisited t ns members) (seq_log-unique t 0 ranked root workers number notes lawful) are)
 
     -- and their sum is that of the tree

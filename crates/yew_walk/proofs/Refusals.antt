@@ -31,7 +31,7 @@ use Rattle.yew_walk.specs.declared.fault.SearchFault.TheVariants.{Memory, AuditF
 use Rattle.yew_walk.specs.declared.keying.Keying.{Keying}
 use Rattle.yew_walk.specs.declared.policy.Event.{Event}
 use Rattle.yew_walk.specs.Entering.{Judges, StopsEntering}
-use Rattle.yew_walk.specs.Keys.{kind_of}
+use Rattle.yew_walk.specs.Keys.{kind_of, gap_in}
 use Rattle.yew_walk.specs.LogViews.{LogView, log_after, RefusesNote}
 use Rattle.yew_walk.specs.Outlets.{OutletCall, IsSentPart}
 use Rattle.yew_walk.specs.Scenes.{Scene, IsCause, IsAlone, IsWalking, HasEvent, IsRefused}
@@ -64,7 +64,7 @@ module _ {S N K Sum Q : Type 0} (meaning : Ghosts S N K) (problem : S) (keying :
 
   -- what entries say of a segment that was broken off
   record IsCutShort (first now : SeatView) (notes : List Note) : Type 0 where
-    pub keeps : IsBrokenWalk t 0 (kind_of keying) task (taken task ∷ notes)
+    pub keeps : IsBrokenWalk t (gap_in keying) (kind_of keying) task (taken task ∷ notes)
     pub part : PartOfBag (covered_paths t (taken task ∷ notes)) (below t task)
     pub goes : SeatGoes t keying first (taken task ∷ notes) now
 
@@ -75,8 +75,8 @@ module _ {S N K Sum Q : Type 0} (meaning : Ghosts S N K) (problem : S) (keying :
     goes = u.goes;
   }
 
-  prefix-of : (notes : List Note) (ls : List (LevelView N)) → task ≡ [] → IsInSequence t notes ls → (rest : List Note) × (seq_log t 0 ≡ (taken task ∷ notes) ++ rest)
-  prefix-of notes ls of_root s = let p = sequence-prefix t notes ls s in (p.0, p.1 ∙ ap (λ q. (taken q ∷ notes) ++ p.0) (sym of_root))
+  prefix-of : (notes : List Note) (ls : List (LevelView N)) → task ≡ [] → IsInSequence t (gap_in keying) notes ls → (rest : List Note) × (seq_log t (gap_in keying) ≡ (taken task ∷ notes) ++ rest)
+  prefix-of notes ls of_root s = let p = sequence-prefix t (gap_in keying) notes ls s in (p.0, p.1 ∙ ap (λ q. (taken q ∷ notes) ++ p.0) (sym of_root))
 
   -- the Taken entry was refused
   pub taken-stops : IsRanked (meaning.sound problem) (meaning.children problem) (meaning.rank problem) → meaning.sound problem (meaning.root problem) → IsSome (at_path t task) → (first now : Scene N Sum Q) (fault : SearchFault) → now.seat ≡ first.seat → now.sent ≡ first.sent → now.log ≡ first.log → RefusesNote first.log task fault → Refused first now fault
@@ -107,7 +107,7 @@ module _ {S N K Sum Q : Type 0} (meaning : Ghosts S N K) (problem : S) (keying :
     noted = record { weighs = λ w. omega arith };
     sound = tt;
     cause = subst (λ log. IsCause fault log (taken task ∷ [])) (sym same_log) (cause-of fault refused);
-    of_sequence = λ alone. let start = (sequence-start t ranked root).is in (_, start ∙ ap (λ p. taken p ∷ (visited [] (meaning.worth problem (meaning.root problem)) 0 ∷ rest_notes t (record { parent = []; given = 0; remaining = meaning.children problem (meaning.root problem) } ∷ []) (visited_worth (visited [] (meaning.worth problem (meaning.root problem)) 0 ∷ [])))) (sym alone.of_root));
+    of_sequence = λ alone. let start = (sequence-start t (gap_in keying) ranked root).is in (_, start ∙ ap (λ p. taken p ∷ (visited [] (meaning.worth problem (meaning.root problem)) 0 ∷ rest_notes t (gap_in keying) (record { parent = []; given = 0; remaining = meaning.children problem (meaning.root problem) } ∷ []) (visited_worth (visited [] (meaning.worth problem (meaning.root problem)) 0 ∷ [])))) (sym alone.of_root));
   }
     where
       taken-once : OneOfAKind (taken task ∷ [])
@@ -130,7 +130,7 @@ module _ {S N K Sum Q : Type 0} (meaning : Ghosts S N K) (problem : S) (keying :
         one_ahead = omega arith;
         log_is = w.log_is;
         keeps = short.keeps;
-        keeps_ahead = subst (IsBrokenWalk t 0 (kind_of keying) task) same short.keeps;
+        keeps_ahead = subst (IsBrokenWalk t (gap_in keying) (kind_of keying) task) same short.keeps;
         part = subst (λ ns. PartOfBag (covered_paths t ns) (below t task)) same short.part;
         goes = subst (λ ns. SeatGoes t keying first.seat ns now.seat) same short.goes;
         sent_are = w.sent_are;
@@ -179,9 +179,9 @@ module _ {S N K Sum Q : Type 0} (meaning : Ghosts S N K) (problem : S) (keying :
       with_note : IsCutShort first.seat after.seat (a.notes ++ s.note ∷ [])
       with_note = judged-short ranked root first.seat now.seat after.seat a.notes a.frames ls path node s.note is a.way a.next s.judges
 
-      along : (note : Note) → Judges meaning problem keying path node note now.seat after.seat → IsAlone meaning problem keying join of policy task first → (rest : List Note) × (seq_log t 0 ≡ (taken task ∷ (a.notes ++ note ∷ [])) ++ rest)
-      along (visited p worth held) j alone = prefix-of (a.notes ++ visited p worth held ∷ []) (ls ++ record { parent = path; given = 0; remaining = meaning.children problem node } ∷ []) alone.of_root (subst (λ q. IsInSequence t (a.notes ++ visited q worth held ∷ []) (ls ++ record { parent = path; given = 0; remaining = meaning.children problem node } ∷ [])) (sym j.0) (a.in_visit alone worth held after.seat j.1))
-      along (cut p bound held) j alone = prefix-of (a.notes ++ cut p bound held ∷ []) ls alone.of_root (subst (λ q. IsInSequence t (a.notes ++ cut q bound held ∷ []) ls) (sym j.0) (a.in_cut alone bound held after.seat j.1))
+      along : (note : Note) → Judges meaning problem keying path node note now.seat after.seat → IsAlone meaning problem keying join of policy task first → (rest : List Note) × (seq_log t (gap_in keying) ≡ (taken task ∷ (a.notes ++ note ∷ [])) ++ rest)
+      along (visited p worth held) j alone = prefix-of (a.notes ++ visited p worth held ∷ []) (ls ++ record { parent = path; given = 0; remaining = meaning.children problem node } ∷ []) alone.of_root (subst (λ q. IsInSequence t (gap_in keying) (a.notes ++ visited q worth held ∷ []) (ls ++ record { parent = path; given = 0; remaining = meaning.children problem node } ∷ [])) (sym j.0) (a.in_visit alone worth held after.seat j.1))
+      along (cut p bound held) j alone = prefix-of (a.notes ++ cut p bound held ∷ []) ls alone.of_root (subst (λ q. IsInSequence t (gap_in keying) (a.notes ++ cut q bound held ∷ []) ls) (sym j.0) (a.in_cut alone bound held after.seat j.1))
       along (taken p) j alone = absurd j
       along (spawned p) j alone = absurd j
       along (handed p) j alone = absurd j
@@ -217,7 +217,7 @@ module _ {S N K Sum Q : Type 0} (meaning : Ghosts S N K) (problem : S) (keying :
             one_ahead = omega arith;
             log_is = r.0 ∙ ap (λ log. log_after log (s.note ∷ [])) a.log_is ∙ sym (log_after-append first.log (taken task ∷ a.notes) (s.note ∷ []));
             keeps = with_note.keeps;
-            keeps_ahead = subst (IsBrokenWalk t 0 (kind_of keying) task) same with_note.keeps;
+            keeps_ahead = subst (IsBrokenWalk t (gap_in keying) (kind_of keying) task) same with_note.keeps;
             part = subst (λ ns. PartOfBag (covered_paths t ns) (below t task)) same with_note.part;
             goes = subst (λ ns. SeatGoes t keying first.seat ns after.seat) same with_note.goes;
             sent_are = subst (λ ts. SameBag ts (first.sent ++ a.tasks)) (sym same_sent) a.sent_are;
@@ -247,7 +247,7 @@ module _ {S N K Sum Q : Type 0} (meaning : Ghosts S N K) (problem : S) (keying :
         noted = same-part w.tasks_are;
         sound = w.sound;
         cause = note-cause fault now.log after.log (ended path) path refl same_log refused;
-        of_sequence = λ alone. prefix-of (w.notes ++ ended path ∷ []) (levels (meaning.remaining problem) new) alone.of_root (sequence-end t w.notes (levels (meaning.remaining problem) old) (levels (meaning.remaining problem) new) path (w.in_sequence alone) turn);
+        of_sequence = λ alone. prefix-of (w.notes ++ ended path ∷ []) (levels (meaning.remaining problem) new) alone.of_root (sequence-end t (gap_in keying) w.notes (levels (meaning.remaining problem) old) (levels (meaning.remaining problem) new) path (w.in_sequence alone) turn);
       }
 
   all-front : (P : List ℕ → Type 0) (xs ys : List (List ℕ)) → AllByRecursion P (xs ++ ys) → AllByRecursion P xs × AllByRecursion P ys

@@ -14,6 +14,7 @@ use Rattle.yew_laws.specs.Tree.{Member, paths, prefixed, forest, IsRanked}
 use Rattle.yew_laws.proofs.Members.{AllByRecursion-append}
 use Rattle.yew_laws.proofs.Trees.{tree-unfolds}
 use Rattle.std.specs.Option.{option_map}
+use Rattle.yew_log.specs.Attained.{limit}
 use Rattle.yew_log.specs.HeldValues.{IsDue}
 use Rattle.yew_log.specs.Notes.{Note, taken, visited, cut, spawned, handed, ended, Judgement, judgement, taken_in, visit_in, cut_in, sent_in, taken_paths, sent_paths}
 use Rattle.yew_log.specs.Segment.{Begins, covered_paths}
@@ -25,10 +26,10 @@ use Rattle.yew_stack.specs.ToCome.{to_come, levels_to_come, node_tree, IsOpen}
 use Rattle.yew_stack.specs.Turns.{TopGives, TopEnds}
 use Rattle.yew_stack.proofs.Coming.{gives-to_come, gives-open, ends-to_come, ends-open, open-new, to_come-opens}
 use Rattle.yew_walk.specs.declared.keying.Keying.{Keying}
-use Rattle.yew_walk.specs.Keys.{key_of, kind_of}
+use Rattle.yew_walk.specs.Keys.{key_of, held_of, limit_of, kind_of, gap_in}
 use Rattle.yew_walk.specs.UnderWay.{AreBelow, AreAligned, HasShape, IsNext, IsUnderWay}
 use Rattle.yew_walk.specs.Verdicts.{IsVisit, IsCut}
-use Rattle.yew_walk.proofs.KeyOrder.{held_of-key_of}
+use Rattle.yew_walk.proofs.KeyOrder.{bound-permitted}
 use Rattle.yew_walk.proofs.SeatWays.{goes-append, goes-knows, knows-later, Knows}
 use Rattle.yew_walk.proofs.WalkSteps.{aligned-gives, aligned-ends, due-above, judged-visit, judged-cut, judged-other, rises-visit, rises-cut, rises-quiet, IsOther}
 
@@ -237,7 +238,7 @@ module _ {S N K : Type 0} (meaning : Ghosts S N K) (problem : S) (keying : Keyin
       let bound = meaning.bound problem node in
       let stands : bound_at t path ≡ Some bound = ap (λ o. option_map (meaning.bound problem) o) is.found in
       record {
-        goes = goes-append t keying first now after notes (visited path worth held ∷ []) u.goes (v.word, record { is_read = v.is_read; held_is = v.held_is; due = λ inner. subst (λ o. IfSome o (λ b. v.word < key_of keying b)) (sym stands) (above inner v.due) }, v.seat_is);
+        goes = goes-append t keying first now after notes (visited path worth held ∷ []) u.goes (v.word, record { is_read = v.is_read; held_is = v.held_is; due = λ inner. subst (λ o. IfSome o (λ b. limit_of keying v.word < key_of keying b)) (sym stands) (above inner v.due) }, v.seat_is);
         shape = shape.0;
         aligned = subst (AreAligned (frame path worth held 0 [] ∷ frames)) (sym (tops-push ls level)) shape.1;
         covered = record {
@@ -268,11 +269,11 @@ module _ {S N K : Type 0} (meaning : Ghosts S N K) (problem : S) (keying : Keyin
         levels_open = AllByRecursion-append Open ls (level ∷ []) u.levels_open (open-new ranked path node (meaning.children problem node) is.found is.is_sound refl, tt);
       }
     where
-      above : path ≢ [] → (path ≡ []) ⊎ (v.word < key_of keying (meaning.bound problem node)) → v.word < key_of keying (meaning.bound problem node)
+      above : path ≢ [] → (path ≡ []) ⊎ (limit_of keying v.word < key_of keying (meaning.bound problem node)) → limit_of keying v.word < key_of keying (meaning.bound problem node)
       above inner (inl root) = absurd (inner root)
       above inner (inr over) = over
 
-      due : path ≢ [] → Knows keying now (taken task ∷ notes) → bound_at t path ≡ Some (meaning.bound problem node) → (path ≡ []) ⊎ (v.word < key_of keying (meaning.bound problem node)) → IsDue t 0 (kind_of keying) (taken task ∷ notes) (judgement path worth held)
+      due : path ≢ [] → Knows keying now (taken task ∷ notes) → bound_at t path ≡ Some (meaning.bound problem node) → (path ≡ []) ⊎ (limit_of keying v.word < key_of keying (meaning.bound problem node)) → IsDue t (gap_in keying) (kind_of keying) (taken task ∷ notes) (judgement path worth held)
       due inner k at (inl root) = absurd (inner root)
       due inner k at (inr above) = due-above t keying now (taken task ∷ notes) v.word (meaning.bound problem node) (judgement path worth held) k v.is_read v.held_is at above
 
@@ -304,11 +305,11 @@ module _ {S N K : Type 0} (meaning : Ghosts S N K) (problem : S) (keying : Keyin
   underway-cut first now after notes frames ls path node bound held is u next v =
       let shape = cut-shape notes frames (reverse ls) path bound held u.shape u.aligned next in
       let knows = goes-knows t keying first now (taken task ∷ notes) u.goes in
-      let low : bound ≤ held = let h = held_of-key_of keying (meaning.bound problem node) v.word v.permitted in omega (arith, h, v.bound_is, v.held_is) in
+      let low : bound ≤ limit (gap_in keying) held = subst (λ h. bound ≤ limit (gap_in keying) h) (sym v.held_is) (subst (λ b. b ≤ limit (gap_in keying) (held_of keying v.word)) (sym v.bound_is) (bound-permitted keying (meaning.bound problem node) v.word v.permitted)) in
       record {
         frames = shape.0;
         is = record {
-          goes = goes-append t keying first now after notes (cut path bound held ∷ []) u.goes (v.word, record { is_read = v.is_read; held_is = v.held_is; permitted = subst (λ b. key_of keying b ≤ v.word) (sym v.bound_is) v.permitted }, v.seat_is);
+          goes = goes-append t keying first now after notes (cut path bound held ∷ []) u.goes (v.word, record { is_read = v.is_read; held_is = v.held_is; permitted = subst (λ b. key_of keying b ≤ limit_of keying v.word) (sym v.bound_is) v.permitted }, v.seat_is);
           shape = shape.1.0;
           aligned = shape.1.1;
           covered = record {

@@ -26,7 +26,7 @@ use Rattle.yew_stack.specs.Levels.{LevelValue, LevelView, levels}
 use Rattle.yew_stack.specs.Splits.{paths_of, nodes_of, MovesLowest}
 use Rattle.yew_stack.specs.ToCome.{to_come, levels_to_come, task_members, node_tree, AllOpen}
 use Rattle.yew_walk.specs.declared.keying.Keying.{Keying}
-use Rattle.yew_walk.specs.Keys.{kind_of}
+use Rattle.yew_walk.specs.Keys.{kind_of, gap_in}
 use Rattle.yew_walk.specs.UnderWay.{AreBelow, AreAligned, HasShape, IsOfLevel, IsUnderWay}
 use Rattle.yew_walk.proofs.UnderWays.{found-there}
 
@@ -137,7 +137,7 @@ module _ {S N K : Type 0} (meaning : Ghosts S N K) (problem : S) (keying : Keyin
   one-segment : (notes : List Note) → taken task ∷ notes ≡ entries (segment task notes ∷ [])
   one-segment notes = sym (append-nil (taken task ∷ notes))
 
-  pub underway-broken_walk : IsRanked (meaning.sound problem) (meaning.children problem) (meaning.rank problem) → meaning.sound problem (meaning.root problem) → (first now : SeatView) (notes : List Note) (frames : List Frame) (ls : List (LevelView N)) (between : List (List ℕ)) → UnderWay first now notes frames ls between → IsBrokenWalk t 0 (kind_of keying) task (taken task ∷ notes)
+  pub underway-broken_walk : IsRanked (meaning.sound problem) (meaning.children problem) (meaning.rank problem) → meaning.sound problem (meaning.root problem) → (first now : SeatView) (notes : List Note) (frames : List Frame) (ls : List (LevelView N)) (between : List (List ℕ)) → UnderWay first now notes frames ls between → IsBrokenWalk t (gap_in keying) (kind_of keying) task (taken task ∷ notes)
   underway-broken_walk ranked root first now notes frames ls between u = record {
     keeps = record {
       segments = segment task notes ∷ [];
@@ -151,7 +151,7 @@ module _ {S N K : Type 0} (meaning : Ghosts S N K) (problem : S) (keying : Keyin
   }
 
   -- and with no level left and nothing between, a whole segment
-  pub underway-walk : (first now : SeatView) (notes : List Note) (frames : List Frame) (rule : List Note → Note → List Note → Type 0) → notes ≢ [] → UnderWay first now notes frames [] [] → HasGroups rule notes → IsWalk t 0 (kind_of keying) rule task (taken task ∷ notes)
+  pub underway-walk : (first now : SeatView) (notes : List Note) (frames : List Frame) (rule : List Note → Note → List Note → Type 0) → notes ≢ [] → UnderWay first now notes frames [] [] → HasGroups rule notes → IsWalk t (gap_in keying) (kind_of keying) rule task (taken task ∷ notes)
   underway-walk first now notes frames rule some u groups =
       let covered : SameBag (covered_paths t notes) (below t task) = record { weighs = λ w. ap (sum_by w) (sym (append-nil (covered_paths t notes))) ∙ u.covered.weighs w } in
       let whole = segment-from_block t task notes (block frames u.shape u.aligned) u.untaken (begun u.begins) covered u.valued in
@@ -162,7 +162,7 @@ module _ {S N K : Type 0} (meaning : Ghosts S N K) (problem : S) (keying : Keyin
           each = (whole, tt);
           groups = (groups, tt);
           held_rises = subst HeldRises (one-segment notes) u.rises;
-          due = subst (IsJudged t 0 (kind_of keying)) (one-segment notes) u.judged;
+          due = subst (IsJudged t (gap_in keying) (kind_of keying)) (one-segment notes) u.judged;
         };
       }
     where

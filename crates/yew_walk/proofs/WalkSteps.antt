@@ -14,10 +14,10 @@ use Rattle.yew_log.proofs.Nesting.{all-flat}
 use Rattle.yew_log.proofs.Places.{AtEach-append}
 use Rattle.yew_stack.specs.Levels.{LevelView, Gives}
 use Rattle.yew_walk.specs.declared.keying.Keying.{Keying}
-use Rattle.yew_walk.specs.Keys.{key_of, held_of, kind_of}
+use Rattle.yew_walk.specs.Keys.{key_of, held_of, limit_of, kind_of, gap_in}
 use Rattle.yew_walk.specs.Seats.{IsRead}
 use Rattle.yew_walk.specs.UnderWay.{AreAligned, HasShape, IsNext}
-use Rattle.yew_walk.proofs.KeyOrder.{key_of-reflects, limit-none, uncut-above}
+use Rattle.yew_walk.proofs.KeyOrder.{uncut-above, worth-permits}
 use Rattle.yew_walk.proofs.SeatWays.{Knows}
 
 -- the highest level gives a child
@@ -72,37 +72,35 @@ aligned-ends (g ∷ f ∷ fs) top (level ∷ lower) task notes path s a e =
     }
 
 module _ {N : Type 0} (t : SearchTree N) (keying : Keying) where
-  -- a visit whose bound is above the word had to be made
-  pub due-above : (seat : SeatView) (notes : List Note) (word bound : ℕ) (v : Judgement) → Knows keying seat notes → IsRead seat word → v.held ≡ held_of keying word → bound_at t v.path ≡ Some bound → word < key_of keying bound → IsDue t 0 (kind_of keying) notes v
+  -- a visit whose bound is above what the word permits to cut had to be made
+  pub due-above : (seat : SeatView) (notes : List Note) (word bound : ℕ) (v : Judgement) → Knows keying seat notes → IsRead seat word → v.held ≡ held_of keying word → bound_at t v.path ≡ Some bound → limit_of keying word < key_of keying bound → IsDue t (gap_in keying) (kind_of keying) notes v
   due-above seat notes word bound v k r is at above = record {
     over_worths = over (visits notes) k.worths;
-    over_held = subst (λ b. IfSome b (IsUncut (kind_of keying) 0 v.held)) (sym at) (subst (λ h. IsUncut (kind_of keying) 0 h bound) (sym is) (uncut-above keying bound word above));
+    over_held = subst (λ b. IfSome b (IsUncut (kind_of keying) (gap_in keying) v.held)) (sym at) (subst (λ h. IsUncut (kind_of keying) (gap_in keying) h bound) (sym is) (uncut-above keying bound word above));
   }
     where
-      over : (us : List Judgement) → AllByRecursion (λ worth. Contains seat.offered (key_of keying worth)) (values us) → AllByRecursion (λ u. CountsFor (kind_of keying) u v → IfSome (bound_at t v.path) (λ b. limit 0 u.value < b)) us
+      over : (us : List Judgement) → AllByRecursion (λ worth. Contains seat.offered (key_of keying worth)) (values us) → AllByRecursion (λ u. CountsFor (kind_of keying) u v → IfSome (bound_at t v.path) (λ b. limit (gap_in keying) u.value < b)) us
       over [] a = tt
       over (u ∷ us) a =
           let low = All-contains (λ x. x ≤ word) seat.offered (key_of keying u.value) r.at_least_offered a.0 in
-          let less = key_of-reflects keying u.value bound word low above in
-          let none = limit-none u.value in
-          ((λ counts. subst (λ b. IfSome b (λ b'. limit 0 u.value < b')) (sym at) (omega (arith, less, none))), over us a.1)
+          let less = worth-permits keying u.value bound word low above in
+          ((λ counts. subst (λ b. IfSome b (λ b'. limit (gap_in keying) u.value < b')) (sym at) less), over us a.1)
 
   -- a visit keeps rule 8
-  pub judged-visit : (notes : List Note) (path : List ℕ) (worth held : ℕ) → IsJudged t 0 (kind_of keying) notes → (path ≢ [] → IsDue t 0 (kind_of keying) notes (judgement path worth held)) → IsJudged t 0 (kind_of keying) (notes ++ visited path worth held ∷ [])
+  pub judged-visit : (notes : List Note) (path : List ℕ) (worth held : ℕ) → IsJudged t (gap_in keying) (kind_of keying) notes → (path ≢ [] → IsDue t (gap_in keying) (kind_of keying) notes (judgement path worth held)) → IsJudged t (gap_in keying) (kind_of keying) (notes ++ visited path worth held ∷ [])
   judged-visit notes path worth held j due = record {
-    visits_due = AtEach-append (λ before note. AllByRecursion (λ v. v.path ≢ [] → IsDue t 0 (kind_of keying) before v) (visit_in note)) [] notes (visited path worth held ∷ []) j.visits_due ((due, tt), tt);
+    visits_due = AtEach-append (λ before note. AllByRecursion (λ v. v.path ≢ [] → IsDue t (gap_in keying) (kind_of keying) before v) (visit_in note)) [] notes (visited path worth held ∷ []) j.visits_due ((due, tt), tt);
     cuts_below = all-flat (λ c. c.path ≢ []) cut_in notes (visited path worth held ∷ []) j.cuts_below tt;
-    cuts_permitted = all-flat (λ c. c.value ≤ limit 0 c.held) cut_in notes (visited path worth held ∷ []) j.cuts_permitted tt;
+    cuts_permitted = all-flat (λ c. c.value ≤ limit (gap_in keying) c.held) cut_in notes (visited path worth held ∷ []) j.cuts_permitted tt;
   }
 
   -- a cut keeps rule 8
-  pub judged-cut : (notes : List Note) (path : List ℕ) (bound held : ℕ) → IsJudged t 0 (kind_of keying) notes → path ≢ [] → bound ≤ held → IsJudged t 0 (kind_of keying) (notes ++ cut path bound held ∷ [])
+  pub judged-cut : (notes : List Note) (path : List ℕ) (bound held : ℕ) → IsJudged t (gap_in keying) (kind_of keying) notes → path ≢ [] → bound ≤ limit (gap_in keying) held → IsJudged t (gap_in keying) (kind_of keying) (notes ++ cut path bound held ∷ [])
   judged-cut notes path bound held j inner le =
-      let none = limit-none held in
       record {
-        visits_due = AtEach-append (λ before note. AllByRecursion (λ v. v.path ≢ [] → IsDue t 0 (kind_of keying) before v) (visit_in note)) [] notes (cut path bound held ∷ []) j.visits_due (tt, tt);
+        visits_due = AtEach-append (λ before note. AllByRecursion (λ v. v.path ≢ [] → IsDue t (gap_in keying) (kind_of keying) before v) (visit_in note)) [] notes (cut path bound held ∷ []) j.visits_due (tt, tt);
         cuts_below = all-flat (λ c. c.path ≢ []) cut_in notes (cut path bound held ∷ []) j.cuts_below (inner, tt);
-        cuts_permitted = all-flat (λ c. c.value ≤ limit 0 c.held) cut_in notes (cut path bound held ∷ []) j.cuts_permitted (omega (arith, le, none), tt);
+        cuts_permitted = all-flat (λ c. c.value ≤ limit (gap_in keying) c.held) cut_in notes (cut path bound held ∷ []) j.cuts_permitted (le, tt);
       }
 
   -- an entry that is neither keeps it too
@@ -111,11 +109,11 @@ module _ {N : Type 0} (t : SearchTree N) (keying : Keying) where
     pub no_cut : cut_in note ≡ []
     pub no_judgement : judgement_in note ≡ []
 
-  pub judged-other : (notes : List Note) (note : Note) → IsOther note → IsJudged t 0 (kind_of keying) notes → IsJudged t 0 (kind_of keying) (notes ++ note ∷ [])
+  pub judged-other : (notes : List Note) (note : Note) → IsOther note → IsJudged t (gap_in keying) (kind_of keying) notes → IsJudged t (gap_in keying) (kind_of keying) (notes ++ note ∷ [])
   judged-other notes note o j = record {
-    visits_due = AtEach-append (λ before n. AllByRecursion (λ v. v.path ≢ [] → IsDue t 0 (kind_of keying) before v) (visit_in n)) [] notes (note ∷ []) j.visits_due (subst (AllByRecursion (λ v. v.path ≢ [] → IsDue t 0 (kind_of keying) notes v)) (sym o.no_visit) tt, tt);
+    visits_due = AtEach-append (λ before n. AllByRecursion (λ v. v.path ≢ [] → IsDue t (gap_in keying) (kind_of keying) before v) (visit_in n)) [] notes (note ∷ []) j.visits_due (subst (AllByRecursion (λ v. v.path ≢ [] → IsDue t (gap_in keying) (kind_of keying) notes v)) (sym o.no_visit) tt, tt);
     cuts_below = all-flat (λ c. c.path ≢ []) cut_in notes (note ∷ []) j.cuts_below (subst (λ cs. AllByRecursion (λ c. c.path ≢ []) (cs ++ [])) (sym o.no_cut) tt);
-    cuts_permitted = all-flat (λ c. c.value ≤ limit 0 c.held) cut_in notes (note ∷ []) j.cuts_permitted (subst (λ cs. AllByRecursion (λ c. c.value ≤ limit 0 c.held) (cs ++ [])) (sym o.no_cut) tt);
+    cuts_permitted = all-flat (λ c. c.value ≤ limit (gap_in keying) c.held) cut_in notes (note ∷ []) j.cuts_permitted (subst (λ cs. AllByRecursion (λ c. c.value ≤ limit (gap_in keying) c.held) (cs ++ [])) (sym o.no_cut) tt);
   }
 
   pub rises-quiet : (notes : List Note) (note : Note) → IsOther note → HeldRises notes → HeldRises (notes ++ note ∷ [])

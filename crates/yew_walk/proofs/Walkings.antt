@@ -16,6 +16,8 @@ use Rattle.yew_laws.proofs.Bags.{same-refl, same-trans, same-is, same-append}
 use Rattle.yew_laws.proofs.Members.{AllByRecursion-append}
 use Rattle.yew_log.specs.declared.entry.What.{What}
 use Rattle.yew_log.specs.declared.entry.What.TheVariants.{Spawned, Handed}
+use Rattle.yew_log.specs.Attained.{limit}
+use Rattle.yew_log.specs.HeldValues.{plain}
 use Rattle.yew_log.specs.Notes.{Note, taken, visited, cut, spawned, handed, ended, visit_in, sent_in, visits, visited_paths, sent_paths, Judgement, judgement}
 use Rattle.yew_log.specs.Groups.{Part, group_of}
 use Rattle.yew_log.specs.Policies.{PolicyMeaning, HasPolicy, on, spawn, hand}
@@ -29,14 +31,13 @@ use Rattle.yew_stack.specs.Turns.{TopGives, TopEnds}
 use Rattle.yew_stack.proofs.Coming.{gives-open}
 use Rattle.yew_walk.specs.declared.hand.Hand.{Hand}
 use Rattle.yew_walk.specs.declared.keying.Keying.{Keying}
-use Rattle.yew_walk.specs.declared.keying.Keying.TheVariants.{Plain, Ranked}
 use Rattle.yew_walk.specs.declared.policy.Event.{Event}
 use Rattle.yew_walk.specs.declared.policy.Event.TheVariants.{Visited, CutOff, Ended}
 use Rattle.yew_walk.specs.Asking.{input_of}
 use Rattle.yew_walk.specs.Dealt.{part_of_chunk, IsDealt}
 use Rattle.yew_walk.specs.Entering.{EntersVisit, EntersCut, Enters}
 use Rattle.yew_walk.specs.Hands.{incumbent_of, best_after, AreVisited}
-use Rattle.yew_walk.specs.Keys.{answer_key}
+use Rattle.yew_walk.specs.Keys.{key_of, held_of, limit_of, answer_key, kind_of, gap_in}
 use Rattle.yew_walk.specs.LogViews.{LogView, log_after, IsWithin}
 use Rattle.yew_walk.specs.Outlets.{OutletCall, was_asked, was_given, list_for, calls_at, outlet_calls}
 use Rattle.yew_walk.specs.PolicyStates.{policy_state, HasGoneOn}
@@ -46,6 +47,7 @@ use Rattle.yew_walk.specs.Seats.{SeatGoes}
 use Rattle.yew_walk.specs.SeqRests.{IsInSequence}
 use Rattle.yew_walk.specs.UnderWay.{IsNext, IsUnderWay}
 use Rattle.yew_walk.specs.Verdicts.{IsVisit, IsCut}
+use Rattle.yew_walk.proofs.KeyOrder.{key_of-plain, held_of-plain, limit_of-plain}
 use Rattle.yew_walk.proofs.SeqRests.{sequence-visit, sequence-cut, sequence-end, sequence-word}
 use Rattle.yew_walk.proofs.BestVisits.{best_after-append}
 use Rattle.yew_walk.proofs.DealtLevels.{dealt-visit, dealt-cut, dealt-end}
@@ -109,19 +111,27 @@ module _ {S N K : Type 0} (meaning : Ghosts S N K) (problem : S) where
   AllByRecursion-first : IsRanked (meaning.sound problem) (meaning.children problem) (meaning.rank problem) → (old new : List (LevelValue K)) (given : Task N) → AllOpen meaning problem old → TopGives (levels (meaning.remaining problem) old) given.path.numbers given.node (levels (meaning.remaining problem) new) → meaning.sound problem given.node
   AllByRecursion-first ranked old new given opened turn = (gives-open meaning problem ranked old new given turn opened).1.is_sound
 
-  sequence-visits : (keying : Keying) → keying ≡ Plain → IsRanked (meaning.sound problem) (meaning.children problem) (meaning.rank problem) → (first now after : SeatView) (notes : List Note) (old mid : List (LevelView N)) (path : List ℕ) (node : N) (worth held : ℕ) → IsInSequence tree notes old → TopGives old path node mid → meaning.sound problem node → SeatGoes tree keying first notes now → first.offered ≡ [] → first.share ≡ first.best.seats → IsVisit meaning problem keying path node worth held now after → IsInSequence tree (notes ++ visited path worth held ∷ []) (mid ++ record { parent = path; given = 0; remaining = meaning.children problem node } ∷ [])
-  sequence-visits Plain plain ranked first now after notes old mid path node worth held seq turn s goes nothing whole v =
-      subst (λ w. IsInSequence tree (notes ++ visited path w held ∷ []) (mid ++ record { parent = path; given = 0; remaining = meaning.children problem node } ∷ [])) (sym v.worth_is)
-      (sequence-visit tree ranked notes old mid path node held seq turn s (v.held_is ∙ sequence-word tree first now notes v.word goes nothing whole v.is_read)
-      (subst (λ h. h < meaning.bound problem node) (sym v.held_is) (elim v.due as (λ o. v.word < meaning.bound problem node) [ inl none ↦ absurd (push-some turn.top.parent turn.top.given (sym turn.gives.path_is ∙ none)) | inr over ↦ over ])))
-  sequence-visits (Ranked rank) plain ranked first now after notes old mid path node worth held seq turn s goes nothing whole v = absurd (cc)
+  module _ (keying : Keying) (is_plain : kind_of keying ≡ plain) where
+    -- the word permits what the worth permits that was held
+    held-limit : (word held : ℕ) → held ≡ held_of keying word → limit_of keying word ≡ limit (gap_in keying) held
+    held-limit word held is = limit_of-plain keying word is_plain ∙ ap (limit (gap_in keying)) (sym (is ∙ held_of-plain keying word is_plain))
 
-  sequence-cuts : (keying : Keying) → keying ≡ Plain → (first now after : SeatView) (notes : List Note) (old mid : List (LevelView N)) (path : List ℕ) (node : N) (bound held : ℕ) → IsInSequence tree notes old → TopGives old path node mid → SeatGoes tree keying first notes now → first.offered ≡ [] → first.share ≡ first.best.seats → IsCut meaning problem keying path node bound held now after → IsInSequence tree (notes ++ cut path bound held ∷ []) mid
-  sequence-cuts Plain plain first now after notes old mid path node bound held seq turn goes nothing whole v =
-      subst (λ b. IsInSequence tree (notes ++ cut path b held ∷ []) mid) (sym v.bound_is)
-      (sequence-cut tree notes old mid path node held seq turn (v.held_is ∙ sequence-word tree first now notes v.word goes nothing whole v.is_read)
-      (subst (λ h. meaning.bound problem node ≤ h) (sym v.held_is) v.permitted))
-  sequence-cuts (Ranked rank) plain first now after notes old mid path node bound held seq turn goes nothing whole v = absurd (cc)
+    sequence-visits : IsRanked (meaning.sound problem) (meaning.children problem) (meaning.rank problem) → (first now after : SeatView) (notes : List Note) (old mid : List (LevelView N)) (path : List ℕ) (node : N) (worth held : ℕ) → IsInSequence tree (gap_in keying) notes old → TopGives old path node mid → meaning.sound problem node → SeatGoes tree keying first notes now → first.offered ≡ [] → first.share ≡ first.best.seats → IsVisit meaning problem keying path node worth held now after → IsInSequence tree (gap_in keying) (notes ++ visited path worth held ∷ []) (mid ++ record { parent = path; given = 0; remaining = meaning.children problem node } ∷ [])
+    sequence-visits ranked first now after notes old mid path node worth held seq turn s goes nothing whole v =
+        subst (λ w. IsInSequence tree (gap_in keying) (notes ++ visited path w held ∷ []) (mid ++ record { parent = path; given = 0; remaining = meaning.children problem node } ∷ [])) (sym v.worth_is)
+        (sequence-visit tree (gap_in keying) ranked notes old mid path node held seq turn s
+        (v.held_is ∙ held_of-plain keying v.word is_plain ∙ sequence-word tree keying is_plain first now notes v.word goes nothing whole v.is_read)
+        (elim v.due [
+          | inl none ↦ absurd (push-some turn.top.parent turn.top.given (sym turn.gives.path_is ∙ none))
+          | inr over ↦ subst (λ b. limit (gap_in keying) held < b) (key_of-plain keying (meaning.bound problem node) is_plain) (subst (λ l. l < key_of keying (meaning.bound problem node)) (held-limit v.word held v.held_is) over)
+        ]))
+
+    sequence-cuts : (first now after : SeatView) (notes : List Note) (old mid : List (LevelView N)) (path : List ℕ) (node : N) (bound held : ℕ) → IsInSequence tree (gap_in keying) notes old → TopGives old path node mid → SeatGoes tree keying first notes now → first.offered ≡ [] → first.share ≡ first.best.seats → IsCut meaning problem keying path node bound held now after → IsInSequence tree (gap_in keying) (notes ++ cut path bound held ∷ []) mid
+    sequence-cuts first now after notes old mid path node bound held seq turn goes nothing whole v =
+        subst (λ b. IsInSequence tree (gap_in keying) (notes ++ cut path b held ∷ []) mid) (sym v.bound_is)
+        (sequence-cut tree (gap_in keying) notes old mid path node held seq turn
+        (v.held_is ∙ held_of-plain keying v.word is_plain ∙ sequence-word tree keying is_plain first now notes v.word goes nothing whole v.is_read)
+        (subst (λ b. b ≤ limit (gap_in keying) held) (key_of-plain keying (meaning.bound problem node) is_plain) (subst (λ l. key_of keying (meaning.bound problem node) ≤ l) (held-limit v.word held v.held_is) v.permitted)))
 
 module _ {S N K Sum Q : Type 0} (meaning : Ghosts S N K) (problem : S) (keying : Keying) (join : Sum → Sum → Sum) (of : N → ℕ → Sum) (policy : PolicyMeaning Q) (task : List ℕ) where
   abbrev t : SearchTree N
@@ -155,8 +165,8 @@ module _ {S N K Sum Q : Type 0} (meaning : Ghosts S N K) (problem : S) (keying :
     pub state_is : policy_state policy first.state notes answers ≡ now.state
     pub if_visited : (worth held : ℕ) → IsDealt t (notes ++ visited path worth held ∷ []) (levels (meaning.remaining problem) stack ++ record { parent = path; given = 0; remaining = meaning.children problem node } ∷ [])
     pub if_cut : (bound held : ℕ) → IsDealt t (notes ++ cut path bound held ∷ []) (levels (meaning.remaining problem) stack)
-    pub in_visit : Alone first → (worth held : ℕ) (after : SeatView) → IsVisit meaning problem keying path node worth held now.seat after → IsInSequence t (notes ++ visited path worth held ∷ []) (levels (meaning.remaining problem) stack ++ child_level path node ∷ [])
-    pub in_cut : Alone first → (bound held : ℕ) (after : SeatView) → IsCut meaning problem keying path node bound held now.seat after → IsInSequence t (notes ++ cut path bound held ∷ []) (levels (meaning.remaining problem) stack)
+    pub in_visit : Alone first → (worth held : ℕ) (after : SeatView) → IsVisit meaning problem keying path node worth held now.seat after → IsInSequence t (gap_in keying) (notes ++ visited path worth held ∷ []) (levels (meaning.remaining problem) stack ++ child_level path node ∷ [])
+    pub in_cut : Alone first → (bound held : ℕ) (after : SeatView) → IsCut meaning problem keying path node bound held now.seat after → IsInSequence t (gap_in keying) (notes ++ cut path bound held ∷ []) (levels (meaning.remaining problem) stack)
     pub log_is : now.log ≡ log_after first.log (taken task ∷ notes)
     pub are_visited : AreVisited t notes members
     pub sum_is : now.hand.sum ≡ sum_after join of first.hand.sum members
@@ -219,7 +229,7 @@ module _ {S N K Sum Q : Type 0} (meaning : Ghosts S N K) (problem : S) (keying :
         dealt = subst (IsDealt t (a.notes ++ note ∷ [])) levels_are (a.if_visited e.worth e.held);
         log_is = e.log_is ∙ ap (λ log. log_after log (note ∷ [])) a.log_is ∙ sym (log_after-append first.log (taken task ∷ a.notes) (note ∷ []));
         within = within;
-        in_sequence = λ alone. subst (IsInSequence t (a.notes ++ note ∷ [])) levels_are (a.in_visit alone e.worth e.held after.seat e.is_visit);
+        in_sequence = λ alone. subst (IsInSequence t (gap_in keying) (a.notes ++ note ∷ [])) levels_are (a.in_visit alone e.worth e.held after.seat e.is_visit);
         are_visited = visited-push t a.notes path e.worth e.held a.members node is.found a.are_visited;
         sum_is = e.sum_is ∙ ap (λ s. join s (of node (length path))) a.sum_is ∙ sym (sum_after-push join of first.hand.sum a.members (record { path = path; node = node }));
         best_is = e.best_is
@@ -252,7 +262,7 @@ module _ {S N K Sum Q : Type 0} (meaning : Ghosts S N K) (problem : S) (keying :
         dealt = subst (λ s. IsDealt t (a.notes ++ note ∷ []) (levels (meaning.remaining problem) s)) (sym e.stack_is) (a.if_cut e.bound e.held);
         log_is = e.log_is ∙ ap (λ log. log_after log (note ∷ [])) a.log_is ∙ sym (log_after-append first.log (taken task ∷ a.notes) (note ∷ []));
         within = within;
-        in_sequence = λ alone. subst (λ s. IsInSequence t (a.notes ++ note ∷ []) (levels (meaning.remaining problem) s)) (sym e.stack_is) (a.in_cut alone e.bound e.held after.seat e.is_cut);
+        in_sequence = λ alone. subst (λ s. IsInSequence t (gap_in keying) (a.notes ++ note ∷ []) (levels (meaning.remaining problem) s)) (sym e.stack_is) (a.in_cut alone e.bound e.held after.seat e.is_cut);
         are_visited = visited-quiet t a.notes (note ∷ []) a.members refl a.are_visited;
         sum_is = ap (λ (h : Hand Sum). h.sum) e.hand_is ∙ a.sum_is;
         best_is = ap (λ (h : Hand Sum). incumbent_of h) e.hand_is ∙ a.best_is ∙ ap (best_after keying (incumbent_of first.hand)) (sym (visits-quiet a.notes (note ∷ []) refl));
@@ -288,7 +298,7 @@ module _ {S N K Sum Q : Type 0} (meaning : Ghosts S N K) (problem : S) (keying :
         dealt = dealt-end t w.notes (levels (meaning.remaining problem) old) (levels (meaning.remaining problem) new) path turn w.gone_on.dealt;
         log_is = logged ∙ ap (λ log. log_after log (note ∷ [])) w.log_is ∙ sym (log_after-append first.log (taken task ∷ w.notes) (note ∷ []));
         within = within;
-        in_sequence = λ alone. sequence-end t w.notes (levels (meaning.remaining problem) old) (levels (meaning.remaining problem) new) path (w.in_sequence alone) turn;
+        in_sequence = λ alone. sequence-end t (gap_in keying) w.notes (levels (meaning.remaining problem) old) (levels (meaning.remaining problem) new) path (w.in_sequence alone) turn;
         are_visited = visited-quiet t w.notes (note ∷ []) w.members refl w.are_visited;
         sum_is = ap (λ (h : Hand Sum). h.sum) same_hand ∙ w.sum_is;
         best_is = ap (λ (h : Hand Sum). incumbent_of h) same_hand ∙ w.best_is ∙ ap (best_after keying (incumbent_of first.hand)) (sym (visits-quiet w.notes (note ∷ []) refl));

@@ -33,7 +33,7 @@ members-same {N} t (m ∷ ms) (n ∷ ns) e a b =
     let head : ◌≡◌ {A = Member N} m n = ap₂ (λ (p : List ℕ) (x : N). record { path = p; node = x }) here node in
     ap₂ (λ (x : Member N) (xs : List (Member N)). x ∷ xs) head (members-same t ms ns later a.1 b.1)
 
-module _ {N : Type 0} (t : SearchTree N) (no_answer : (n : N) → t.worth n ≡ 0) (promising : (n : N) → 0 < t.bound n) where
+module _ {N : Type 0} (t : SearchTree N) (no_answer : (n : N) → t.worth n ≡ 0) (promising : (n : N) → 0 < t.bound n) (gap : ℕ) where
   -- what holds of entries that visit these paths and find no answer
   record Finds (notes : List Note) (ps : List (List ℕ)) : Type 0 where
     pub none : visited_worth notes ≡ 0
@@ -80,19 +80,19 @@ module _ {N : Type 0} (t : SearchTree N) (no_answer : (n : N) → t.worth n ≡ 
           (Finds-append first (others held) (paths (prefixed (path ++ k ∷ []) (tree_of c))) later here rest)
 
     -- a child, which is not cut
-    child_notes-all : (levels : ℕ) → ((path : List ℕ) (n : N) → sound n → t.rank n ≤ levels → Finds (visit_notes t 0 levels path n 0) (paths (prefixed path (tree_of n)))) → (path : List ℕ) (c : N) → sound c → t.rank c ≤ levels → Finds (if nat_le (t.bound c) (limit 0 0) then cut path (t.bound c) 0 ∷ [] else visit_notes t 0 levels path c 0) (paths (prefixed path (tree_of c)))
-    child_notes-all levels visit path c s low = by (nat_le (t.bound c) (limit 0 0)) refl
+    child_notes-all : (levels : ℕ) → ((path : List ℕ) (n : N) → sound n → t.rank n ≤ levels → Finds (visit_notes t gap levels path n 0) (paths (prefixed path (tree_of n)))) → (path : List ℕ) (c : N) → sound c → t.rank c ≤ levels → Finds (if nat_le (t.bound c) (limit gap 0) then cut path (t.bound c) 0 ∷ [] else visit_notes t gap levels path c 0) (paths (prefixed path (tree_of c)))
+    child_notes-all levels visit path c s low = by (nat_le (t.bound c) (limit gap 0)) refl
       where
-        by : (v : Bool) → nat_le (t.bound c) (limit 0 0) ≡ v → Finds (if v then cut path (t.bound c) 0 ∷ [] else visit_notes t 0 levels path c 0) (paths (prefixed path (tree_of c)))
-        by true e = let small : t.bound c ≤ 0 = leb-true (t.bound c) (limit 0 0) e in let above = promising c in absurd (omega (arith, small, above))
+        by : (v : Bool) → nat_le (t.bound c) (limit gap 0) ≡ v → Finds (if v then cut path (t.bound c) 0 ∷ [] else visit_notes t gap levels path c 0) (paths (prefixed path (tree_of c)))
+        by true e = let small : t.bound c ≤ 0 = leb-true (t.bound c) (limit gap 0) e in let above = promising c in absurd (omega (arith, small, above))
         by false e = visit path c s low
 
-    visit_notes-all : (levels : ℕ) (path : List ℕ) (n : N) → sound n → t.rank n ≤ levels → Finds (visit_notes t 0 levels path n 0) (paths (prefixed path (tree_of n)))
+    visit_notes-all : (levels : ℕ) (path : List ℕ) (n : N) → sound n → t.rank n ≤ levels → Finds (visit_notes t gap levels path n 0) (paths (prefixed path (tree_of n)))
     visit_notes-all zero path n s low =
         closed-all path n [] s
         (subst (λ cs. Finds [] (paths (prefixed path (forest tree_of 0 cs)))) (leaf ranked n s low) (record { none = refl; all = refl }))
     visit_notes-all (suc levels) path n s low =
-        let made : List ℕ → N → ℕ → List Note = λ p c h. if nat_le (t.bound c) (limit 0 h) then cut p (t.bound c) h ∷ [] else visit_notes t 0 levels p c h in
+        let made : List ℕ → N → ℕ → List Note = λ p c h. if nat_le (t.bound c) (limit gap h) then cut p (t.bound c) h ∷ [] else visit_notes t gap levels p c h in
         let inside = in_turn visited_worth made path 0 (t.children n) in
         let worth = no_answer n in
         let none : 0 ≡ max 0 (t.worth n) = omega (arith, worth) in
@@ -103,13 +103,13 @@ module _ {N : Type 0} (t : SearchTree N) (no_answer : (n : N) → t.worth n ≡ 
 
     module _ (root : sound t.root) where
       -- all paths of the tree are visited, in preorder
-      pub visited_paths-seq_log : visited_paths (seq_log t 0) ≡ paths (preorder t)
+      pub visited_paths-seq_log : visited_paths (seq_log t gap) ≡ paths (preorder t)
       visited_paths-seq_log = (visit_notes-all (t.rank t.root) [] t.root root (omega arith)).all ∙ ap paths (prefixed-nil (preorder t))
 
       -- the nodes that were visited are those of the tree
-      pub AreVisited-preorder : (members : List (Member N)) → AreVisited t (seq_log t 0) members → members ≡ preorder t
+      pub AreVisited-preorder : (members : List (Member N)) → AreVisited t (seq_log t gap) members → members ≡ preorder t
       AreVisited-preorder members are = members-same t members (preorder t) (are.paths_are ∙ visited_paths-seq_log) are.there (tree-node_at ranked t.root root)
 
       -- and their sum is that of the tree
-      pub AreVisited-Fold : {S : Type 0} (join : S → S → S) (none : S) (of : N → ℕ → S) (members : List (Member N)) → AreVisited t (seq_log t 0) members → fold_of join none (of_member of) members ≡ Fold t join none of
+      pub AreVisited-Fold : {S : Type 0} (join : S → S → S) (none : S) (of : N → ℕ → S) (members : List (Member N)) → AreVisited t (seq_log t gap) members → fold_of join none (of_member of) members ≡ Fold t join none of
       AreVisited-Fold join none of members are = ap (fold_of join none (of_member of)) (AreVisited-preorder members are)

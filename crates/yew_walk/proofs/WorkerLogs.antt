@@ -17,26 +17,36 @@ use Rattle.yew_log.proofs.Growth.{HeldRises-append, worths-append}
 use Rattle.yew_log.proofs.Places.{AtEach-append}
 use Rattle.yew_log.proofs.Walks.{IsJudged-join}
 use Rattle.yew_walk.specs.declared.keying.Keying.{Keying}
-use Rattle.yew_walk.specs.declared.keying.Keying.TheVariants.{Plain, Ranked}
-use Rattle.yew_walk.specs.Keys.{key_of, held_of, kind_of}
+use Rattle.yew_walk.specs.declared.keying.Keying.TheVariants.{Plain, Ranked, Gap}
+use Rattle.yew_walk.specs.Keys.{key_of, held_of, limit_of, kind_of, gap_in}
 use Rattle.yew_walk.specs.Seats.{has_offered, IsRead, SeatGoes}
 use Rattle.yew_walk.specs.WorkerLogs.{KeyedSegment, segments_of, SeatGoesOn, ComesFirst, KeysRise}
-use Rattle.yew_walk.proofs.KeyOrder.{limit-none}
+use Rattle.yew_walk.proofs.KeyOrder.{limit-none, limit-grows}
 use Rattle.yew_walk.proofs.PlainLogs.{maximum-one}
 use Rattle.yew_walk.proofs.SeatWays.{Keeps, Knows, knows-later, goes-keeps, goes-knows, goes-stays}
 
--- a worth whose key stands before, of an item with a smaller number, is below a bound whose key is above
-below-bound : (first second : Keying) (worth bound word : ℕ) → ComesFirst first second → key_of first worth ≤ word → word < key_of second bound → worth < bound
-below-bound Plain Plain worth bound word c low high = omega arith
-below-bound (Ranked a) (Ranked b) worth bound word c low high = omega arith
+-- a worth whose key stands before, of an item with a smaller number, permits no cut of a bound whose key is above what the word permits
+below-bound : (first second : Keying) (worth bound word : ℕ) → ComesFirst first second → key_of first worth ≤ word → limit_of second word < key_of second bound → limit (gap_in second) worth < bound
+below-bound Plain Plain worth bound word c low high = let l = limit-none worth in omega (arith, low, high, l)
+below-bound (Ranked a) (Ranked b) worth bound word c low high = let l = limit-none worth in omega (arith, c, low, high, l)
+below-bound (Gap a) (Gap b) worth bound word c low high = let l = limit-grows b worth word low in omega (arith, high, l)
 below-bound Plain (Ranked b) worth bound word c low high = absurd c
+below-bound Plain (Gap b) worth bound word c low high = absurd c
 below-bound (Ranked a) Plain worth bound word c low high = absurd c
+below-bound (Ranked a) (Gap b) worth bound word c low high = absurd c
+below-bound (Gap a) Plain worth bound word c low high = absurd c
+below-bound (Gap a) (Ranked b) worth bound word c low high = absurd c
 
 same-kind : (first second : Keying) → ComesFirst first second → kind_of second ≡ kind_of first
 same-kind Plain Plain c = refl
 same-kind (Ranked a) (Ranked b) c = refl
+same-kind (Gap a) (Gap b) c = refl
 same-kind Plain (Ranked b) c = absurd c
+same-kind Plain (Gap b) c = absurd c
 same-kind (Ranked a) Plain c = absurd c
+same-kind (Ranked a) (Gap b) c = absurd c
+same-kind (Gap a) Plain c = absurd c
+same-kind (Gap a) (Ranked b) c = absurd c
 
 -- the worth that a word holds, by the kind of keys
 abbrev held_by : KeyKind → ℕ → ℕ
@@ -48,12 +58,16 @@ held_of-held_by Plain plain word e = refl
 held_of-held_by (Ranked r) ranked word e = refl
 held_of-held_by Plain ranked word e = absurd (cc)
 held_of-held_by (Ranked r) plain word e = absurd (cc)
+held_of-held_by (Gap g) plain word e = refl
+held_of-held_by (Gap g) ranked word e = absurd (cc)
 
 held_by-key_of : (keying : Keying) (kind : KeyKind) (worth : ℕ) → kind_of keying ≡ kind → held_by kind (key_of keying worth) ≡ worth
 held_by-key_of Plain plain worth e = refl
 held_by-key_of (Ranked r) ranked worth e = omega arith
 held_by-key_of Plain ranked worth e = absurd (cc)
 held_by-key_of (Ranked r) plain worth e = absurd (cc)
+held_by-key_of (Gap g) plain worth e = refl
+held_by-key_of (Gap g) ranked worth e = absurd (cc)
 
 held_by-grows : (kind : KeyKind) (a b : ℕ) → a ≤ b → held_by kind a ≤ held_by kind b
 held_by-grows plain a b le = le
@@ -100,30 +114,29 @@ module _ {N : Type 0} (t : SearchTree N) where
   goes-later first second c before a b (handed p ∷ ns) knows g = goes-later first second c before a b ns knows g
   goes-later first second c before a b (ended p ∷ ns) knows g = goes-later first second c before a b ns knows g
 
-  -- a visit of a later walk has a bound above the worths that were offered before
-  abbrev IsOver : List Note → Judgement → Type 0
-  IsOver before v = v.path ≢ [] → AllByRecursion (λ u. IfSome (bound_at t v.path) (λ b. limit 0 u.value < b)) (visits before)
+  -- a visit of a later walk has a bound above what the worths that were offered before permit to cut
+  abbrev IsOver : ℕ → List Note → Judgement → Type 0
+  IsOver gap before v = v.path ≢ [] → AllByRecursion (λ u. IfSome (bound_at t v.path) (λ b. limit gap u.value < b)) (visits before)
 
-  over-one : (first second : Keying) → ComesFirst first second → (before : List Note) (a : SeatView) (path : List ℕ) (word : ℕ) → Knows first a before → IsRead a word → IfSome (bound_at t path) (λ b. word < key_of second b) → AllByRecursion (λ u. IfSome (bound_at t path) (λ b. limit 0 u.value < b)) (visits before)
+  over-one : (first second : Keying) → ComesFirst first second → (before : List Note) (a : SeatView) (path : List ℕ) (word : ℕ) → Knows first a before → IsRead a word → IfSome (bound_at t path) (λ b. limit_of second word < key_of second b) → AllByRecursion (λ u. IfSome (bound_at t path) (λ b. limit (gap_in second) u.value < b)) (visits before)
   over-one first second c before a path word knows read due = by (bound_at t path) refl due
     where
-      each : (bound : ℕ) → word < key_of second bound → (us : List Judgement) → AllByRecursion (λ worth. Contains a.offered (key_of first worth)) (values us) → AllByRecursion (λ u. limit 0 u.value < bound) us
+      each : (bound : ℕ) → limit_of second word < key_of second bound → (us : List Judgement) → AllByRecursion (λ worth. Contains a.offered (key_of first worth)) (values us) → AllByRecursion (λ u. limit (gap_in second) u.value < bound) us
       each bound high [] k = tt
       each bound high (u ∷ us) k =
           let low = All-contains (λ x. x ≤ word) a.offered (key_of first u.value) read.at_least_offered k.0 in
           let under = below-bound first second u.value bound word c low high in
-          let same = limit-none u.value in
-          (omega (arith, under, same), each bound high us k.1)
+          (under, each bound high us k.1)
 
-      by : (o : Option ℕ) → bound_at t path ≡ o → IfSome o (λ b. word < key_of second b) → AllByRecursion (λ u. IfSome (bound_at t path) (λ b. limit 0 u.value < b)) (visits before)
-      by None e d = subst (λ o. AllByRecursion (λ u. IfSome o (λ b. limit 0 u.value < b)) (visits before)) (sym e) (nothing (visits before))
+      by : (o : Option ℕ) → bound_at t path ≡ o → IfSome o (λ b. limit_of second word < key_of second b) → AllByRecursion (λ u. IfSome (bound_at t path) (λ b. limit (gap_in second) u.value < b)) (visits before)
+      by None e d = subst (λ o. AllByRecursion (λ u. IfSome o (λ b. limit (gap_in second) u.value < b)) (visits before)) (sym e) (nothing (visits before))
         where
-          nothing : (us : List Judgement) → AllByRecursion (λ u. IfSome None (λ b. limit 0 u.value < b)) us
+          nothing : (us : List Judgement) → AllByRecursion (λ u. IfSome None (λ b. limit (gap_in second) u.value < b)) us
           nothing [] = tt
           nothing (u ∷ us) = (tt, nothing us)
-      by (Some bound) e d = subst (λ o. AllByRecursion (λ u. IfSome o (λ b. limit 0 u.value < b)) (visits before)) (sym e) (each bound d (visits before) knows.worths)
+      by (Some bound) e d = subst (λ o. AllByRecursion (λ u. IfSome o (λ b. limit (gap_in second) u.value < b)) (visits before)) (sym e) (each bound d (visits before) knows.worths)
 
-  goes-over : (first second : Keying) → ComesFirst first second → (before : List Note) (a b : SeatView) (notes : List Note) → Knows first a before → SeatGoes t second a notes b → AllByRecursion (IsOver before) (visits notes)
+  goes-over : (first second : Keying) → ComesFirst first second → (before : List Note) (a b : SeatView) (notes : List Note) → Knows first a before → SeatGoes t second a notes b → AllByRecursion (IsOver (gap_in second) before) (visits notes)
   goes-over first second c before a b [] knows g = tt
   goes-over first second c before a b (visited p w h ∷ ns) knows g =
       let mid = has_offered (has_read a g.0) (key_of second w) in
@@ -147,13 +160,13 @@ module _ {N : Type 0} (t : SearchTree N) where
         (goes-later first w.keying c.0 before a g.0 (entries_in w.segment) knows g.1)
         (all-later g.0 b ws c.1 (knows-keeps first a g.0 before (goes-keeps t w.keying a g.0 (entries_in w.segment) g.1) knows) g.2))
 
-    all-over : (a b : SeatView) (walks : List KeyedSegment) → AllByRecursion (λ w. ComesFirst first w.keying) walks → Knows first a before → SeatGoesOn t a walks b → AllByRecursion (IsOver before) (visits (all_entries walks))
-    all-over a b [] c knows g = tt
-    all-over a b (w ∷ ws) c knows g =
-        subst (AllByRecursion (IsOver before)) (sym (flat_map-append visit_in (entries_in w.segment) (all_entries ws)))
-        (AllByRecursion-append (IsOver before) (visits (entries_in w.segment)) (visits (all_entries ws))
-        (goes-over first w.keying c.0 before a g.0 (entries_in w.segment) knows g.1)
-        (all-over g.0 b ws c.1 (knows-keeps first a g.0 before (goes-keeps t w.keying a g.0 (entries_in w.segment) g.1) knows) g.2))
+    all-over : (gap : ℕ) (a b : SeatView) (walks : List KeyedSegment) → AllByRecursion (λ w. gap_in w.keying ≡ gap) walks → AllByRecursion (λ w. ComesFirst first w.keying) walks → Knows first a before → SeatGoesOn t a walks b → AllByRecursion (IsOver gap before) (visits (all_entries walks))
+    all-over gap a b [] is c knows g = tt
+    all-over gap a b (w ∷ ws) is c knows g =
+        subst (AllByRecursion (IsOver gap before)) (sym (flat_map-append visit_in (entries_in w.segment) (all_entries ws)))
+        (AllByRecursion-append (IsOver gap before) (visits (entries_in w.segment)) (visits (all_entries ws))
+        (subst (λ k. AllByRecursion (IsOver k before) (visits (entries_in w.segment))) is.0 (goes-over first w.keying c.0 before a g.0 (entries_in w.segment) knows g.1))
+        (all-over gap g.0 b ws is.1 c.1 (knows-keeps first a g.0 before (goes-keeps t w.keying a g.0 (entries_in w.segment) g.1) knows) g.2))
 
   -- rule 7 of all walks together
   pub walks-rise : (walks : List KeyedSegment) (first now : SeatView) → SeatGoesOn t first walks now → KeysRise walks → AllByRecursion (λ w. HeldRises (entries_in w.segment)) walks → HeldRises (all_entries walks)
@@ -162,12 +175,12 @@ module _ {N : Type 0} (t : SearchTree N) where
       HeldRises-append (entries_in w.segment) (all_entries ws) each.0 (walks-rise ws g.0 now g.2 keys.1 each.1)
       (all-later w.keying (entries_in w.segment) g.0 now ws keys.0 (goes-knows t w.keying first g.0 (entries_in w.segment) g.1) g.2)
 
-  -- rule 8 of all walks together
-  pub walks-judged : (kind : KeyKind) (walks : List KeyedSegment) (first now : SeatView) → SeatGoesOn t first walks now → KeysRise walks → AllByRecursion (λ w. IsJudged t 0 kind (entries_in w.segment)) walks → IsJudged t 0 kind (all_entries walks)
-  walks-judged kind [] first now g keys each = record { visits_due = tt; cuts_below = tt; cuts_permitted = tt }
-  walks-judged kind (w ∷ ws) first now g keys each =
-      IsJudged-join t 0 kind (entries_in w.segment) (all_entries ws) each.0 (walks-judged kind ws g.0 now g.2 keys.1 each.1)
-      (all-over w.keying (entries_in w.segment) g.0 now ws keys.0 (goes-knows t w.keying first g.0 (entries_in w.segment) g.1) g.2)
+  -- rule 8 of all walks together, which have one gap
+  pub walks-judged : (gap : ℕ) (kind : KeyKind) (walks : List KeyedSegment) (first now : SeatView) → AllByRecursion (λ w. gap_in w.keying ≡ gap) walks → SeatGoesOn t first walks now → KeysRise walks → AllByRecursion (λ w. IsJudged t gap kind (entries_in w.segment)) walks → IsJudged t gap kind (all_entries walks)
+  walks-judged gap kind [] first now is g keys each = record { visits_due = tt; cuts_below = tt; cuts_permitted = tt }
+  walks-judged gap kind (w ∷ ws) first now is g keys each =
+      IsJudged-join t gap kind (entries_in w.segment) (all_entries ws) each.0 (walks-judged gap kind ws g.0 now is.1 g.2 keys.1 each.1)
+      (all-over w.keying (entries_in w.segment) gap g.0 now ws is.1 keys.0 (goes-knows t w.keying first g.0 (entries_in w.segment) g.1) g.2)
 
   -- the worths that a seat has offered, with keys of one kind
   abbrev offered_worths : KeyKind → SeatView → List ℕ
