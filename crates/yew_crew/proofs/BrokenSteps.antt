@@ -21,7 +21,7 @@ use Rattle.yew_pool.specs.Passes.{PassView}
 use Rattle.yew_stack.specs.Splits.{paths_of}
 use Rattle.yew_walk.specs.declared.fault.SearchFault.{SearchFault}
 use Rattle.yew_walk.specs.declared.hand.Hand.{Hand}
-use Rattle.yew_walk.specs.declared.keying.Keying.TheVariants.{Plain}
+use Rattle.yew_walk.specs.declared.keying.Keying.TheVariants.{Gap}
 use Rattle.yew_walk.specs.LogViews.{LogView, log_after}
 use Rattle.yew_walk.specs.Scenes.{IsRefused, scene}
 use Rattle.yew_walk.proofs.Sending.{log_after-append}
@@ -40,16 +40,16 @@ use Rattle.yew_crew.proofs.WorkRefused.{goes-front, broken-work}
 use Rattle.yew_crew.proofs.WorkSteps.{grow, stay}
 use Rattle.yew_crew.proofs.WorkTurns.{stays}
 
-module _ {P N K S R Q : Type 0} (meaning : Ghosts P N K) (problem : P) (join : S → S → S) (none : S) (of : N → ℕ → S) (seen : R → LogView) (coord : Coord)
+module _ {P N K S R Q : Type 0} (meaning : Ghosts P N K) (problem : P) (join : S → S → S) (none : S) (of : N → ℕ → S) (seen : R → LogView) (coord : Coord) (gap : ℕ)
     (policy : PolicyMeaning Q) where
   -- a refused walk, and the tasks that it had sent to the pool
   pub spawn-broken : (task : List ℕ) (fault : SearchFault) (number : ℕ) (mail : MailSeatView (Task N) (Members N)) (b0 b1 : SeatView) (h0 h1 : Hand S)
       (q0 q1 : Q) (o0 o1 : SpawningView P N)
       (answers0 answers1 : Option (List Bool)) (l0 l1 : R)
-      → IsRefused meaning problem Plain join of policy task (scene b0 h0 q0 o0.pass.put answers0 (seen l0))
+      → IsRefused meaning problem (Gap gap) join of policy task (scene b0 h0 q0 o0.pass.put answers0 (seen l0))
       (scene b1 h1 q1 o1.pass.put answers1 (seen l1)) fault
       → KeepsSpawning o0 o1 → b1.best ≡ b0.best → b1.share ≡ b0.share
-      → IsBrokenStep (searched (search_tree meaning problem) join none of seen coord 0) task fault (station number b0 o0.pass mail o0.tasks h0 l0)
+      → IsBrokenStep (searched (search_tree meaning problem) join none of seen coord gap) task fault (station number b0 o0.pass mail o0.tasks h0 l0)
       (station number b1 o1.pass mail o1.tasks h1 l1)
   spawn-broken task fault number mail b0 b1 h0 h1 q0 q1 o0 o1 answers0 answers1 l0 l1 refused kept seat_is share_is =
       let PassOf : Type 0 = PassView (Task N) (Members N) in
@@ -90,9 +90,9 @@ module _ {P N K S R Q : Type 0} (meaning : Ghosts P N K) (problem : P) (join : S
       }
 
 -- a walk that was broken off notes at most its task as taken
-pub taken-broken : {N : Type 0} (t : SearchTree N) (h : List ℕ → ℕ) (path : List ℕ) (notes : List Note) → IsBrokenWalk t 0 plain path notes
+pub taken-broken : {N : Type 0} (t : SearchTree N) (gap : ℕ) (h : List ℕ → ℕ) (path : List ℕ) (notes : List Note) → IsBrokenWalk t gap plain path notes
     → sum_by h (taken_paths notes) ≤ h path
-taken-broken t h path notes b = by b.of_task
+taken-broken t gap h path notes b = by b.of_task
   where
     by : (b.keeps.segments ≡ []) ⊎ ((body : List Note) × (b.keeps.segments ≡ segment path body ∷ [])) → sum_by h (taken_paths notes) ≤ h path
     by (inl none) =
@@ -105,22 +105,22 @@ taken-broken t h path notes b = by b.of_task
         let c = sum_by-cons h path (taken_paths one.0) in
         let d = ap (λ l. sum_by h l) kept.untaken in omega arith
 
-module _ {N S R : Type 0} (t : SearchTree N) (join : S → S → S) (none : S) (of : N → ℕ → S) (seen : R → LogView) (coord : Coord) where
+module _ {N S R : Type 0} (t : SearchTree N) (join : S → S → S) (none : S) (of : N → ℕ → S) (seen : R → LogView) (coord : Coord) (gap : ℕ) where
   -- a worker whose walk was refused, and which told the others to stop
   pub work-broken : {others : List (List ℕ)} (path : List ℕ) (fault : SearchFault) (first before after : Station N S R) (tasks : OpenSeatView)
-      → IsWorking (searched t join none of seen coord 0) (path ∷ others) first before
-      → IsBrokenStep (searched t join none of seen coord 0) path fault before after
+      → IsWorking (searched t join none of seen coord gap) (path ∷ others) first before
+      → IsBrokenStep (searched t join none of seen coord gap) path fault before after
       → tasks ≡ record after.tasks { stops = after.tasks.stops + 1 }
-      → IsFaulty (searched t join none of seen coord 0) fault first (record after { tasks = tasks })
+      → IsFaulty (searched t join none of seen coord gap) fault first (record after { tasks = tasks })
   work-broken {others} path fault first before after tasks w b stopped =
-      let s : Searched S R N = searched t join none of seen coord 0 in
+      let s : Searched S R N = searched t join none of seen coord gap in
       let done = entries w.segments in
       let rest = b.notes ++ b.ahead in
       let all : (done ++ b.notes) ++ b.ahead ≡ done ++ rest = append_assoc done b.notes b.ahead in
       let are = each-segment s w.segments w.walks in
-      let front = goes-front t before.best after.best b.notes b.ahead b.goes in
-      let kept = (broken-work t s refl path first.best before.best front.0 w.segments b.notes w.walks w.goes front.1 b.keeps).1 in
-      let kept_ahead = (broken-work t s refl path first.best before.best after.best w.segments rest w.walks w.goes b.goes b.keeps_ahead).1 in
+      let front = goes-front t gap before.best after.best b.notes b.ahead b.goes in
+      let kept = (broken-work t gap s refl refl path first.best before.best front.0 w.segments b.notes w.walks w.goes front.1 b.keeps).1 in
+      let kept_ahead = (broken-work t gap s refl refl path first.best before.best after.best w.segments rest w.walks w.goes b.goes b.keeps_ahead).1 in
       record {
         ahead = b.ahead;
         part = record {
@@ -154,7 +154,7 @@ module _ {N S R : Type 0} (t : SearchTree N) (join : S → S → S) (none : S) (
                 let a = ap (λ l. sum_by h l) (flat_map-append taken_in done rest) in
                 let c = sum_by-append h (taken_paths done) (taken_paths rest) in
                 let d = ap (λ l. sum_by h l) (taken-segments t w.segments are) in
-                let e = taken-broken t h path rest b.keeps_ahead in
+                let e = taken-broken t gap h path rest b.keeps_ahead in
                 let g = w.taken_are.weighs h in
                 let i = sum_by-append h (tasks_of w.segments) (path ∷ others) in
                 let j = sum_by-cons h path others in omega arith);
@@ -173,7 +173,7 @@ module _ {N S R : Type 0} (t : SearchTree N) (join : S → S → S) (none : S) (
                 let n = sum_by-append h (sent_paths done) (sent_paths b.notes) in omega arith);
           };
           keeps = kept.keeps;
-          keeps_ahead = subst (λ l. (IsBrokenLog t 0 plain l)) (sym all) kept_ahead.keeps;
+          keeps_ahead = subst (λ l. (IsBrokenLog t gap plain l)) (sym all) kept_ahead.keeps;
           alone = λ a. subst HeldIsMaximum (sym all) (kept_ahead.alone a.none_offered a.whole);
         };
         cause = b.cause;

@@ -16,7 +16,7 @@ use Rattle.yew_laws.proofs.Weights.{part-all, contains-has_weight, contains-weig
 use Rattle.yew_log.specs.Notes.{Judgement, paths}
 use Rattle.yew_crew.specs.Groups.{Group, taken, together, IsBalanced, IsClosed}
 use Rattle.yew_crew.proofs.GroupLaws.{group-covers}
-use Rattle.yew_crew.proofs.NearBest.{at_path-sound}
+use Rattle.yew_walk.proofs.NearBest.{at_path-sound}
 
 -- the middle one of three lists may stand last
 pub swap-last : {X : Type 0} (xs ys zs : List X) → SameBag ((xs ++ ys) ++ zs) ((xs ++ zs) ++ ys)

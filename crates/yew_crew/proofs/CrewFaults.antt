@@ -167,10 +167,10 @@ left-makes {N} {S} {R} afters left all h =
 
 module _ {N S R : Type 0} (t : SearchTree N) {sound : N → Type 0} (ranked : IsRanked sound t.children t.rank)
     (bounded : IsBounded sound t.children t.worth t.bound) (root_sound : sound t.root)
-    (join : S → S → S) (none : S) (of : N → ℕ → S) (seen : R → LogView) (coord : Coord) (shared : Shared N) (workers : ℕ) where
+    (join : S → S → S) (none : S) (of : N → ℕ → S) (seen : R → LogView) (coord : Coord) (gap : ℕ) (shared : Shared N) (workers : ℕ) where
   -- what is searched, and how
   abbrev ours : Searched S R N
-  ours = searched t join none of seen coord 0
+  ours = searched t join none of seen coord gap
 
   -- all tasks that were taken or are left are the root's and those that were sent
   pub crew-tasks : (begun : List (Station N S R)) (reports : List (Report N S R)) (left : List (Task N))
@@ -231,7 +231,7 @@ module _ {N S R : Type 0} (t : SearchTree N) {sound : N → Type 0} (ranked : Is
       (xs : List (Station N S R)) (rs : List (Report N S R))
       → AreStarted place xs → place + length xs ≤ workers → (are : AreReports ours xs rs)
       → AllByRecursion (λ (d : Doing). OneOfAKind d.notes) (doings ours xs rs are)
-      → fault_in None rs ≡ Some fault → IsCrewFault t 0 (skeleton_of coord) workers tells fault
+      → fault_in None rs ≡ Some fault → IsCrewFault t gap (skeleton_of coord) workers tells fault
   found-fault tells telling fault place [] [] started low are once e = absurd (cc)
   found-fault tells telling fault place [] (r ∷ rs) started low are once e = absurd are
   found-fault tells telling fault place (x ∷ xs) [] started low are once e = absurd are
@@ -239,36 +239,36 @@ module _ {N S R : Type 0} (t : SearchTree N) {sound : N → Type 0} (ranked : Is
       by r.end are.0.ends once.0 e (found-fault tells telling fault (suc place) xs rs started.1 (omega arith) are.1 once.1)
     where
       by : (end : End) (is : IsEnd ours x r.station end) → OneOfAKind (end_doing ours x r.station end is).notes
-          → fault_in (first_fault None end) rs ≡ Some fault → (fault_in None rs ≡ Some fault → IsCrewFault t 0 (skeleton_of coord) workers tells fault)
-          → IsCrewFault t 0 (skeleton_of coord) workers tells fault
+          → fault_in (first_fault None end) rs ≡ Some fault → (fault_in None rs ≡ Some fault → IsCrewFault t gap (skeleton_of coord) workers tells fault)
+          → IsCrewFault t gap (skeleton_of coord) workers tells fault
       by Done is one e others = others e
       by Stopped is one e others = others e
       by (Fault own) is one e others =
           let same : Some own ≡ Some fault = sym (fault-stays rs own) ∙ e in
-          subst (IsCrewFault t 0 (skeleton_of coord) workers tells) (same_Some own fault same)
+          subst (IsCrewFault t gap (skeleton_of coord) workers tells) (same_Some own fault same)
           (faulty-crew ours x r.station workers (place + 1) tells own is started.0.new started.0.number_is (omega arith) (omega arith)
           started.0.alone (telling r.station.log) one)
 
   -- The fault of the first worker that has one, after the pool and the mailboxes were ended, is one of the crew
   pub crew-fault : (tells : Type 0) (begun : List (Station N S R)) (reports : List (Report N S R)) (fault : SearchFault) (left : List (Task N))
       → IsCrew (members_of t) none seen shared workers begun
-      → AreReports (searched t join none of seen coord 0) begun reports
+      → AreReports (searched t join none of seen coord gap) begun reports
       → fault_in None reports ≡ Some fault
       → IsAllLeft (passes_of (stations_of reports)) (seats_of (stations_of reports)) left
       → ((log : R) → IsSome (seen log).told → tells)
-      → IsCrewFault t 0 (skeleton_of coord) workers tells fault
+      → IsCrewFault t gap (skeleton_of coord) workers tells fault
   crew-fault tells begun reports fault left crew are faulty all telling =
       let started = crew-started begun crew in
       found-fault tells telling fault 0 begun reports started.0 (let low = started.1 in omega arith) are (crew-once begun reports left crew are all) faulty
 
   -- so is the fault of the parts that a crew carried, which has worked
   pub worked-fault : {fits : S → Type 0} (tells : Type 0) (reports : List (Report N S R)) (parts : Parts N S R) (fault : SearchFault) (left : List (Task N))
-      → HasWorked (searched t join none of seen coord 0) fits (members_of t) workers shared reports
+      → HasWorked (searched t join none of seen coord gap) fits (members_of t) workers shared reports
       → AreParts reports parts
       → parts.fault ≡ Some fault
       → IsAllLeft parts.passes.items parts.seats.items left
       → ((log : R) → IsSome (seen log).told → tells)
-      → IsCrewFault t 0 (skeleton_of coord) workers tells fault
+      → IsCrewFault t gap (skeleton_of coord) workers tells fault
   worked-fault tells reports parts fault left worked are faulty all telling =
       let stations = stations_of reports in
       crew-fault tells worked.begun reports fault left worked.crew worked.are_reports (sym are.fault ∙ faulty)

@@ -181,32 +181,32 @@ module _ {N S R : Type 0} (members : Members N) (none : S) (seen : R → LogView
   crew-ready fits f workers stations crew = subst (AllByRecursion (IsReady fits members shared)) (sym crew.stands)
       (begun-ready 0 1 (crew.root ∷ []) crew.first crew.first_is fits f, each-begun (IsReady fits members shared) (λ place x i. begun-ready place 0 [] x i fits f) 1 crew.others crew.others_are)
 
-module _ {N S R : Type 0} (t : SearchTree N) (join : S → S → S) (none : S) (of : N → ℕ → S) (seen : R → LogView) (coord : Coord) (members : Members N) (shared : Shared N) (workers : ℕ)
+module _ {N S R : Type 0} (t : SearchTree N) (join : S → S → S) (none : S) (of : N → ℕ → S) (seen : R → LogView) (coord : Coord) (gap : ℕ) (members : Members N) (shared : Shared N) (workers : ℕ)
     {fits : S → Type 0} (tally : IsTally fits join none) (of_fits : (n : N) (depth : ℕ) → fits (of n depth)) where
-  abbrev pub done-of : (before after : Station N S R) (end : End) → IsEnd (searched t join none of seen coord 0) before after end → IsEndDone end → IsDone (searched t join none of seen coord 0) before after
+  abbrev pub done-of : (before after : Station N S R) (end : End) → IsEnd (searched t join none of seen coord gap) before after end → IsEndDone end → IsDone (searched t join none of seen coord gap) before after
   done-of before after Done is done = is
   done-of before after Stopped is done = absurd done
   done-of before after (Fault fault) is done = absurd done
 
-  pub new-station : (place made : ℕ) (put : List (Task N)) (x : Station N S R) → IsBegun members none seen shared place made put x → IsNew (searched t join none of seen coord 0) workers tally of_fits (place + 1) x
+  pub new-station : (place made : ℕ) (put : List (Task N)) (x : Station N S R) → IsBegun members none seen shared place made put x → IsNew (searched t join none of seen coord gap) workers tally of_fits (place + 1) x
   new-station place made put x is = record { sum_none = is.sum_none; holds_none = is.holds_none; told = is.told; totals = is.totals; number_is = is.log_number }
 
   -- workers that came to their ends, from this place on
   pub done-all : (place : ℕ) (befores : List (Station N S R)) (reports : List (Report N S R)) → AreBegun members none seen shared place befores
-      → AreReports (searched t join none of seen coord 0) befores reports → AllByRecursion (λ (r : Report N S R). IsEndDone r.end) reports
-      → AreDone (searched t join none of seen coord 0) workers tally of_fits (place + 1) befores (stations_of reports)
+      → AreReports (searched t join none of seen coord gap) befores reports → AllByRecursion (λ (r : Report N S R). IsEndDone r.end) reports
+      → AreDone (searched t join none of seen coord gap) workers tally of_fits (place + 1) befores (stations_of reports)
   done-all place [] [] b a d = tt
   done-all place [] (r ∷ rs) b a d = absurd a
   done-all place (x ∷ xs) [] b a d = absurd a
   done-all place (x ∷ xs) (r ∷ rs) b a d = (
     (new-station place 0 [] x b.0, done-of x r.station r.end a.0.ends d.0),
-    subst (λ n. AreDone (searched t join none of seen coord 0) workers tally of_fits n xs (stations_of rs)) (let e : suc place + 1 ≡ suc (place + 1) = omega arith in e) (done-all (suc place) xs rs b.1 a.1 d.1),
+    subst (λ n. AreDone (searched t join none of seen coord gap) workers tally of_fits n xs (stations_of rs)) (let e : suc place + 1 ≡ suc (place + 1) = omega arith in e) (done-all (suc place) xs rs b.1 a.1 d.1),
   )
 
   -- no report has a fault, so all came to their ends
   pub all-ended : (befores : List (Station N S R)) (first : Report N S R) (rest : List (Report N S R)) (word : ℕ) → IsCrew members none seen shared workers befores
-      → AreReports (searched t join none of seen coord 0) befores (first ∷ rest) → fault_in None (first ∷ rest) ≡ None → IsExact (tasks_with first.station.tasks (stations_of rest)) word
+      → AreReports (searched t join none of seen coord gap) befores (first ∷ rest) → fault_in None (first ∷ rest) ≡ None → IsExact (tasks_with first.station.tasks (stations_of rest)) word
       → AllByRecursion (λ (r : Report N S R). IsEndDone r.end) (first ∷ rest)
   all-ended befores first rest word crew are none_faulty exact =
-      all-done (searched t join none of seen coord 0) befores (first ∷ rest) (before-first first.station.tasks) are (crew-begun members none seen shared workers befores crew).stops (no-faults (first ∷ rest) none_faulty) refl
+      all-done (searched t join none of seen coord gap) befores (first ∷ rest) (before-first first.station.tasks) are (crew-begun members none seen shared workers befores crew).stops (no-faults (first ∷ rest) none_faulty) refl
       (subst (λ (v : OpenSeatView). v.saw ≡ true → 0 < v.stops) (sym (joined-first first.station (stations_of rest))) exact.saw)

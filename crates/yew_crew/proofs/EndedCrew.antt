@@ -47,7 +47,7 @@ use Rattle.yew_crew.proofs.Finished.{Finish, all_of}
 use Rattle.yew_crew.proofs.GroupLaws.{root-taken}
 use Rattle.yew_crew.proofs.KnownBefore.{known-before}
 use Rattle.yew_crew.proofs.LeftTasks.{pool-closed, mail-closed}
-use Rattle.yew_crew.proofs.NearBest.{at_path-sound}
+use Rattle.yew_walk.proofs.NearBest.{at_path-sound}
 use Rattle.yew_crew.proofs.RestEnds.{IsRestWork, AreDone, finishes}
 use Rattle.yew_crew.proofs.RestWork.{rest-work}
 use Rattle.yew_crew.proofs.WholeCrew.{IsCrewEnd, done-worked, all_of-groups}
@@ -104,29 +104,31 @@ module _ {N : Type 0} (t : SearchTree N) {sound : N → Type 0} (ranked : IsRank
       (AllByRecursion-weaker (IsAmong (members_of t)) (λ (task : Task N). IsThere t task.path.numbers)
       (λ task among. there-at task.path.numbers task.node (among-task t ranked root_sound task among).1) tasks a)
 
-module _ {N S R : Type 0} (t : SearchTree N) (join : S → S → S) (none : S) (of : N → ℕ → S) (seen : R → LogView) (coord : Coord) (shared : Shared N) where
+module _ {N S R : Type 0} (t : SearchTree N) (join : S → S → S) (none : S) (of : N → ℕ → S) (seen : R → LogView) (coord : Coord) (gap : ℕ) (shared : Shared N) where
   -- What holds of a station and what its worker made of it holds of all stations that reports hand back
   each-after : (Q : Station N S R → Type 0) → ((place made : ℕ) (put : List (Task N)) (b a : Station N S R) → IsBegun (members_of t) none seen shared place made put b → IsSameStation b a → Q a)
-      → (place : ℕ) (bs : List (Station N S R)) (rs : List (Report N S R)) → AreBegun (members_of t) none seen shared place bs → AreReports (searched t join none of seen coord 0) bs rs → AllByRecursion (λ (r : Report N S R). Q r.station) rs
+      → (place : ℕ) (bs : List (Station N S R)) (rs : List (Report N S R)) → AreBegun (members_of t) none seen shared place bs → AreReports (searched t join none of seen coord gap) bs rs
+      → AllByRecursion (λ (r : Report N S R). Q r.station) rs
   each-after Q f place [] [] b a = tt
   each-after Q f place [] (r ∷ rs) b a = absurd a
   each-after Q f place (x ∷ xs) [] b a = absurd a
   each-after Q f place (x ∷ xs) (r ∷ rs) b a = (f place 0 [] x r.station b.0 a.0.same, each-after Q f (suc place) xs rs b.1 a.1)
 
   pub reports-after : (Q : Station N S R → Type 0) → ((place made : ℕ) (put : List (Task N)) (b a : Station N S R) → IsBegun (members_of t) none seen shared place made put b → IsSameStation b a → Q a)
-      → (workers : ℕ) (bs : List (Station N S R)) (rs : List (Report N S R)) → IsCrew (members_of t) none seen shared workers bs → AreReports (searched t join none of seen coord 0) bs rs → AllByRecursion (λ (r : Report N S R). Q r.station) rs
+      → (workers : ℕ) (bs : List (Station N S R)) (rs : List (Report N S R)) → IsCrew (members_of t) none seen shared workers bs → AreReports (searched t join none of seen coord gap) bs rs
+      → AllByRecursion (λ (r : Report N S R). Q r.station) rs
   reports-after Q f workers bs [] crew are = tt
   reports-after Q f workers bs (r ∷ rs) crew are =
-      let a = subst (λ (l : List (Station N S R)). AreReports (searched t join none of seen coord 0) l (r ∷ rs)) crew.stands are in
+      let a = subst (λ (l : List (Station N S R)). AreReports (searched t join none of seen coord gap) l (r ∷ rs)) crew.stands are in
       (f 0 1 (crew.root ∷ []) crew.first r.station crew.first_is a.0.same, each-after Q f 1 crew.others rs crew.others_are a.1)
 
   pub all-after : (Q : Station N S R → Type 0) → ((place made : ℕ) (put : List (Task N)) (b a : Station N S R) → IsBegun (members_of t) none seen shared place made put b → IsSameStation b a → Q a)
-      → (workers : ℕ) (bs : List (Station N S R)) (rs : List (Report N S R)) → IsCrew (members_of t) none seen shared workers bs → AreReports (searched t join none of seen coord 0) bs rs → AllByRecursion Q (stations_of rs)
+      → (workers : ℕ) (bs : List (Station N S R)) (rs : List (Report N S R)) → IsCrew (members_of t) none seen shared workers bs → AreReports (searched t join none of seen coord gap) bs rs → AllByRecursion Q (stations_of rs)
   all-after Q f workers bs rs crew are = AllByRecursion-map Q (λ (r : Report N S R). r.station) rs (reports-after Q f workers bs rs crew are)
 
   -- a share of 1 each adds up to the number of workers
   ones-after : (f : Station N S R → ℕ) → ((place made : ℕ) (put : List (Task N)) (b a : Station N S R) → IsBegun (members_of t) none seen shared place made put b → IsSameStation b a → f a ≡ 1)
-      → (place : ℕ) (bs : List (Station N S R)) (rs : List (Report N S R)) → AreBegun (members_of t) none seen shared place bs → AreReports (searched t join none of seen coord 0) bs rs
+      → (place : ℕ) (bs : List (Station N S R)) (rs : List (Report N S R)) → AreBegun (members_of t) none seen shared place bs → AreReports (searched t join none of seen coord gap) bs rs
       → sum_by f (stations_of rs) ≡ length bs
   ones-after f one place [] [] b a = refl
   ones-after f one place [] (r ∷ rs) b a = absurd a
@@ -135,20 +137,20 @@ module _ {N S R : Type 0} (t : SearchTree N) (join : S → S → S) (none : S) (
       let here = one place 0 [] x r.station b.0 a.0.same in let rest = ones-after f one (suc place) xs rs b.1 a.1 in let c = sum_by-cons f r.station (stations_of rs) in omega arith
 
   pub shares-after : (f : Station N S R → ℕ) → ((place made : ℕ) (put : List (Task N)) (b a : Station N S R) → IsBegun (members_of t) none seen shared place made put b → IsSameStation b a → f a ≡ 1)
-      → (workers : ℕ) (bs : List (Station N S R)) (rs : List (Report N S R)) → IsCrew (members_of t) none seen shared workers bs → AreReports (searched t join none of seen coord 0) bs rs
+      → (workers : ℕ) (bs : List (Station N S R)) (rs : List (Report N S R)) → IsCrew (members_of t) none seen shared workers bs → AreReports (searched t join none of seen coord gap) bs rs
       → sum_by f (stations_of rs) ≡ workers
-  shares-after f one workers bs [] crew are = absurd (subst (λ (l : List (Station N S R)). AreReports (searched t join none of seen coord 0) l []) crew.stands are)
+  shares-after f one workers bs [] crew are = absurd (subst (λ (l : List (Station N S R)). AreReports (searched t join none of seen coord gap) l []) crew.stands are)
   shares-after f one workers bs (r ∷ rs) crew are =
-      let a = subst (λ (l : List (Station N S R)). AreReports (searched t join none of seen coord 0) l (r ∷ rs)) crew.stands are in
+      let a = subst (λ (l : List (Station N S R)). AreReports (searched t join none of seen coord gap) l (r ∷ rs)) crew.stands are in
       let here = one 0 1 (crew.root ∷ []) crew.first r.station crew.first_is a.0.same in let rest = ones-after f one 1 crew.others rs crew.others_are a.1 in
       let c = sum_by-cons f r.station (stations_of rs) in let k = crew.count in omega arith
 
-module _ {N S R : Type 0} (t : SearchTree N) (join : S → S → S) (none : S) (of : N → ℕ → S) (seen : R → LogView) (coord : Coord) (shared : Shared N) (workers : ℕ)
+module _ {N S R : Type 0} (t : SearchTree N) (join : S → S → S) (none : S) (of : N → ℕ → S) (seen : R → LogView) (coord : Coord) (gap : ℕ) (shared : Shared N) (workers : ℕ)
     (begun : List (Station N S R)) (first : Report N S R) (rest : List (Report N S R)) (left : List (Task N)) (word : ℕ) where
   -- All workers have reported, none of them a fault; the count was loaded by the joined seat; and these tasks are all that was left
   pub record AreOver : Type 0 where
     pub crew : IsCrew (members_of t) none seen shared workers begun
-    pub are : AreReports (searched t join none of seen coord 0) begun (first ∷ rest)
+    pub are : AreReports (searched t join none of seen coord gap) begun (first ∷ rest)
     pub none_faulty : fault_in None (first ∷ rest) ≡ None
     pub exact : IsExact (tasks_with first.station.tasks (stations_of rest)) word
     pub all_left : IsAllLeft (passes_of (stations_of (first ∷ rest))) (seats_of (stations_of (first ∷ rest))) left
@@ -157,7 +159,7 @@ module _ {N S R : Type 0} (t : SearchTree N) (join : S → S → S) (none : S) (
   module _ (o : AreOver) {sound : N → Type 0} (ranked : IsRanked sound t.children t.rank) (bounded : IsBounded sound t.children t.worth t.bound) (root_sound : sound t.root)
       {fits : S → Type 0} (tally : IsTally fits join none) (of_fits : (n : N) (depth : ℕ) → fits (of n depth)) where
     abbrev here : Searched S R N
-    here = searched t join none of seen coord 0
+    here = searched t join none of seen coord gap
 
     pub are-here : AreReports here (o.crew.first ∷ o.crew.others) (first ∷ rest)
     are-here = subst (λ (l : List (Station N S R)). AreReports here l (first ∷ rest)) o.crew.stands o.are
@@ -166,13 +168,13 @@ module _ {N S R : Type 0} (t : SearchTree N) (join : S → S → S) (none : S) (
     begun-here = subst (HasBegun (members_of t) none seen shared) o.crew.stands (crew-begun (members_of t) none seen shared workers begun o.crew)
 
     pub all_done : AllByRecursion (λ (r : Report N S R). IsEndDone r.end) (first ∷ rest)
-    all_done = all-ended t join none of seen coord (members_of t) shared workers tally of_fits begun first rest word o.crew o.are o.none_faulty o.exact
+    all_done = all-ended t join none of seen coord gap (members_of t) shared workers tally of_fits begun first rest word o.crew o.are o.none_faulty o.exact
 
     abbrev pub done : IsDone here o.crew.first first.station
-    done = done-of t join none of seen coord (members_of t) shared workers tally of_fits o.crew.first first.station first.end are-here.0.ends all_done.0
+    done = done-of t join none of seen coord gap (members_of t) shared workers tally of_fits o.crew.first first.station first.end are-here.0.ends all_done.0
 
     others : AreDone here workers tally of_fits 2 o.crew.others (stations_of rest)
-    others = done-all t join none of seen coord (members_of t) shared workers tally of_fits 1 o.crew.others rest o.crew.others_are are-here.1 all_done.1
+    others = done-all t join none of seen coord gap (members_of t) shared workers tally of_fits 1 o.crew.others rest o.crew.others_are are-here.1 all_done.1
 
     abbrev own : Group N S
     own = done.work.group
@@ -223,13 +225,13 @@ module _ {N S R : Type 0} (t : SearchTree N) (join : S → S → S) (none : S) (
     passes-for =
         All-from_recursion (λ (pass : PassView (Task N) (Members N)). pass.members ≡ Some (members_of t)) (passes_of (stations_of (first ∷ rest)))
         (AllByRecursion-map (λ (pass : PassView (Task N) (Members N)). pass.members ≡ Some (members_of t)) (λ (x : Station N S R). x.pool) (stations_of (first ∷ rest))
-        (all-after t join none of seen coord shared (λ x. x.pool.members ≡ Some (members_of t)) (λ place made put b a is same. same.pass_members ∙ ap (λ (p : PassView (Task N) (Members N)). p.members) is.pool_is)
+        (all-after t join none of seen coord gap shared (λ x. x.pool.members ≡ Some (members_of t)) (λ place made put b a is same. same.pass_members ∙ ap (λ (p : PassView (Task N) (Members N)). p.members) is.pool_is)
         workers begun (first ∷ rest) o.crew o.are))
 
     seats-for : AreFor (members_of t) (seats_of (stations_of (first ∷ rest)))
     seats-for =
         AllByRecursion-map (λ (m : MailSeatView (Task N) (Members N)). m.members ≡ Some (members_of t)) (λ (x : Station N S R). x.mail) (stations_of (first ∷ rest))
-        (all-after t join none of seen coord shared (λ x. x.mail.members ≡ Some (members_of t)) (λ place made put b a is same. same.mail_members ∙ ap (λ (m : MailSeatView (Task N) (Members N)). m.members) is.mail_is)
+        (all-after t join none of seen coord gap shared (λ x. x.mail.members ≡ Some (members_of t)) (λ place made put b a is same. same.mail_members ∙ ap (λ (m : MailSeatView (Task N) (Members N)). m.members) is.mail_is)
         workers begun (first ∷ rest) o.crew o.are)
 
     left-there : AllByRecursion (IsThere t) (paths_of pool_rest ++ paths_of mail_rest)
@@ -297,10 +299,10 @@ module _ {N S R : Type 0} (t : SearchTree N) (join : S → S → S) (none : S) (
         by (b ∷ bs) e = inr (let c = o.crew.count in let n = ap length e in omega arith)
 
     module _ (seat : SeatView) (hand : Hand S) (log : R)
-        (rested : IsRested (searched t join none of seen (Depth 0) 0) (paths_of left) (best_with first.station.best (stations_of rest)) first.station.hand first.station.log seat hand log)
+        (rested : IsRested (searched t join none of seen (Depth 0) gap) (paths_of left) (best_with first.station.best (stations_of rest)) first.station.hand first.station.log seat hand log)
         (closed : All (λ x. (x ≡ 0) ⊎ Contains seat.offered x) seat.read) where
       abbrev rested-work : IsRestWork here (entries done.segments.segments) first.station.hand first.station.log hand log
-      rested-work = rest-work t join none of seen coord (entries done.segments.segments) pool_rest mail_rest left (best_with first.station.best (stations_of rest)) seat first.station.hand hand first.station.log log left-is
+      rested-work = rest-work t join none of seen coord gap (entries done.segments.segments) pool_rest mail_rest left (best_with first.station.best (stations_of rest)) seat first.station.hand hand first.station.log log left-is
           (known-before here o.crew.first first.station (stations_of rest) done) rested
 
       reads-here : AllByRecursion (λ x. (x ≡ 0) ⊎ Contains (both.offered ++ rested-work.group.offered) x) (both.read ++ rested-work.group.read)
@@ -321,7 +323,7 @@ module _ {N S R : Type 0} (t : SearchTree N) (join : S → S → S) (none : S) (
       pub over-ends : IsCrewEnd here workers tally of_fits o.crew.first first.station o.crew.others (stations_of rest) hand log
       over-ends = record {
         done = done;
-        new = new-station t join none of seen coord (members_of t) shared workers tally of_fits 0 1 (o.crew.root ∷ []) o.crew.first o.crew.first_is;
+        new = new-station t join none of seen coord gap (members_of t) shared workers tally of_fits 0 1 (o.crew.root ∷ []) o.crew.first o.crew.first_is;
         others = others;
         rest = rested-work;
         count = o.crew.count;

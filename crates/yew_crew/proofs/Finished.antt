@@ -23,10 +23,10 @@ use Rattle.yew_crew.specs.CrewSearch.{IsLogOf, AreLogsOf}
 use Rattle.yew_crew.specs.Gathering.{IsGathered}
 use Rattle.yew_crew.specs.Groups.{Group, taken, sent, idle, together, IsBalanced, IsClosed}
 use Rattle.yew_crew.specs.Stations.{Searched, skeleton_of}
-use Rattle.yew_crew.proofs.BestFinds.{nothing, IsNamedBy, IsBestOf, best_after-best, maximum-append, holding, not_holding}
+use Rattle.yew_walk.proofs.BestFinds.{nothing, IsNamedBy, IsBestOf, best_after-best, maximum-append, holding, not_holding}
 use Rattle.yew_crew.proofs.Gathering.{none-greater}
 use Rattle.yew_crew.proofs.GroupLaws.{same-deals, group-covers, group-attained}
-use Rattle.yew_crew.proofs.NearBest.{contained-bounds}
+use Rattle.yew_walk.proofs.NearBest.{contained-bounds}
 
 -- what one worker has done, noted and found, with what the caller walked for it
 pub record Finish (S R N : Type 0) : Type 0 where

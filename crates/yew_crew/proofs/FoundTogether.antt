@@ -72,45 +72,45 @@ module _ {N S R : Type 0} (s : Searched S R N) (workers : ℕ) {fits : S → Typ
           sum_is = crew-sum s workers tally of_fits before after befores afters hand log e ranked bounded root_sound gathered hands;
         }
 
-module _ {N S R : Type 0} (t : SearchTree N) (join : S → S → S) (none : S) (of : N → ℕ → S) (seen : R → LogView) (coord : Coord) (shared : Shared N) (workers : ℕ)
-    (begun : List (Station N S R)) (first : Report N S R) (rest : List (Report N S R)) (left : List (Task N)) (word : ℕ) (o : AreOver t join none of seen coord shared workers begun first rest left word)
+module _ {N S R : Type 0} (t : SearchTree N) (join : S → S → S) (none : S) (of : N → ℕ → S) (seen : R → LogView) (coord : Coord) (gap : ℕ) (shared : Shared N) (workers : ℕ)
+    (begun : List (Station N S R)) (first : Report N S R) (rest : List (Report N S R)) (left : List (Task N)) (word : ℕ) (o : AreOver t join none of seen coord gap shared workers begun first rest left word)
     {sound : N → Type 0} (ranked : IsRanked sound t.children t.rank) (bounded : IsBounded sound t.children t.worth t.bound) (root_sound : sound t.root)
     {fits : S → Type 0} (tally : IsTally fits join none) (of_fits : (n : N) (depth : ℕ) → fits (of n depth)) where
   pub over-found : (seat : SeatView) (hand : Hand S) (log : R)
-      → IsRested (searched t join none of seen (Depth 0) 0) (paths_of left) (best_with first.station.best (stations_of rest)) first.station.hand first.station.log seat hand log
+      → IsRested (searched t join none of seen (Depth 0) gap) (paths_of left) (best_with first.station.best (stations_of rest)) first.station.hand first.station.log seat hand log
       → All (λ x. (x ≡ 0) ⊎ Contains seat.offered x) seat.read
       → (gathered : Hand S) (logs : List R) → IsGathered join none (hand ∷ hands_of (stations_of rest)) gathered → logs ≡ log ∷ logs_of (stations_of rest)
-      → IsFound (searched t join none of seen coord 0) workers gathered logs
+      → IsFound (searched t join none of seen coord gap) workers gathered logs
   over-found seat hand log rested closed =
-      end-found (searched t join none of seen coord 0) workers tally of_fits o.crew.first first.station o.crew.others (stations_of rest) hand log
-      (over-ends t join none of seen coord shared workers begun first rest left word o ranked bounded root_sound tally of_fits seat hand log rested closed) ranked bounded root_sound
+      end-found (searched t join none of seen coord gap) workers tally of_fits o.crew.first first.station o.crew.others (stations_of rest) hand log
+      (over-ends t join none of seen coord gap shared workers begun first rest left word o ranked bounded root_sound tally of_fits seat hand log rested closed) ranked bounded root_sound
 
   -- the doing of a worker that came to its end
-  done-same : (x y : Station N S R) (end : End) (is : IsEnd (searched t join none of seen coord 0) x y end) (d : IsEndDone end)
-      → end_doing (searched t join none of seen coord 0) x y end is ≡ done_doing (searched t join none of seen coord 0) x y (done-of t join none of seen coord (members_of t) shared workers tally of_fits x y end is d)
+  done-same : (x y : Station N S R) (end : End) (is : IsEnd (searched t join none of seen coord gap) x y end) (d : IsEndDone end)
+      → end_doing (searched t join none of seen coord gap) x y end is ≡ done_doing (searched t join none of seen coord gap) x y (done-of t join none of seen coord gap (members_of t) shared workers tally of_fits x y end is d)
   done-same x y Done is d = refl
   done-same x y Stopped is d = absurd d
   done-same x y (Fault fault) is d = absurd d
 
   -- a walk of what was left that was refused is a fault of the crew
   pub over-refused : (tells : Type 0) (fault : SearchFault) (seat : SeatView) (log : R)
-      → IsRestRefused (searched t join none of seen (Depth 0) 0) (paths_of left) fault (best_with first.station.best (stations_of rest)) first.station.log seat log
-      → (IsSome (seen log).told → tells) → IsCrewFault t 0 (skeleton_of coord) workers tells fault
+      → IsRestRefused (searched t join none of seen (Depth 0) gap) (paths_of left) fault (best_with first.station.best (stations_of rest)) first.station.log seat log
+      → (IsSome (seen log).told → tells) → IsCrewFault t gap (skeleton_of coord) workers tells fault
   over-refused tells fault seat log refused telling =
-      let ours = searched t join none of seen coord 0 in
-      let finished = done t join none of seen coord shared workers begun first rest left word o ranked bounded root_sound tally of_fits in
-      let are = are-here t join none of seen coord shared workers begun first rest left word o ranked bounded root_sound tally of_fits in
-      let ended = all_done t join none of seen coord shared workers begun first rest left word o ranked bounded root_sound tally of_fits in
+      let ours = searched t join none of seen coord gap in
+      let finished = done t join none of seen coord gap shared workers begun first rest left word o ranked bounded root_sound tally of_fits in
+      let are = are-here t join none of seen coord gap shared workers begun first rest left word o ranked bounded root_sound tally of_fits in
+      let ended = all_done t join none of seen coord gap shared workers begun first rest left word o ranked bounded root_sound tally of_fits in
       let known = known-before ours o.crew.first first.station (stations_of rest) finished in
       let begun_now : IsCrew (members_of t) none seen shared workers (o.crew.first ∷ o.crew.others) = subst (IsCrew (members_of t) none seen shared workers) o.crew.stands o.crew in
-      let bag = crew-tasks t ranked bounded root_sound join none of seen coord shared workers (o.crew.first ∷ o.crew.others) (first ∷ rest) left begun_now are o.all_left in
+      let bag = crew-tasks t ranked bounded root_sound join none of seen coord gap shared workers (o.crew.first ∷ o.crew.others) (first ∷ rest) left begun_now are o.all_left in
       let more = doings ours o.crew.others rest are.1 in
       let bag' = subst (λ (d : Doing). SameBag (all_took (d ∷ more) ++ paths_of left) ([] ∷ all_sent (d ∷ more))) (done-same o.crew.first first.station first.end are.0.ends ended.0) bag in
       let many : 1 < workers = ⊎_elim (λ (none_left : length left ≡ 0). absurd (not-refused none_left)) (λ (h : 1 < workers). h)
-      (several-here t join none of seen coord shared workers begun first rest left word o ranked bounded root_sound tally of_fits) in
-      rest-fault t join none of seen coord o.crew.first first.station finished (paths_of left) fault (best_with first.station.best (stations_of rest)) seat log refused
+      (several-here t join none of seen coord gap shared workers begun first rest left word o ranked bounded root_sound tally of_fits) in
+      rest-fault t join none of seen coord gap o.crew.first first.station finished (paths_of left) fault (best_with first.station.best (stations_of rest)) seat log refused
       shared 1 (o.crew.root ∷ []) workers tells o.crew.first_is finished.segments.broken known many
-      (rest-once t join none of seen coord o.crew.first first.station finished (paths_of left) fault (best_with first.station.best (stations_of rest)) seat log refused
+      (rest-once t join none of seen coord gap o.crew.first first.station finished (paths_of left) fault (best_with first.station.best (stations_of rest)) seat log refused
       ranked bounded root_sound finished.segments.broken known more (all-doings ours o.crew.others rest are.1) bag')
       telling
     where

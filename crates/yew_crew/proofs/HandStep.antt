@@ -27,7 +27,7 @@ use Rattle.yew_stack.specs.Splits.{paths_of}
 use Rattle.yew_stack.specs.declared.stacks.Chunk.{Chunk}
 use Rattle.yew_walk.specs.Dealt.{part_of_chunk}
 use Rattle.yew_walk.specs.declared.hand.Hand.{Hand}
-use Rattle.yew_walk.specs.declared.keying.Keying.TheVariants.{Plain}
+use Rattle.yew_walk.specs.declared.keying.Keying.TheVariants.{Gap}
 use Rattle.yew_walk.specs.LogViews.{LogView}
 use Rattle.yew_walk.specs.Outlets.{OutletCall}
 use Rattle.yew_walk.specs.Scenes.{IsRefused, IsWalked, scene}
@@ -68,7 +68,7 @@ append-none : {X : Type 0} (xs : List X) → xs ++ [] ≡ xs
 append-none [] = refl
 append-none (x ∷ xs) = ap (λ l. x ∷ l) (append-none xs)
 
-module _ {P N K S R : Type 0} (meaning : Ghosts P N K) (problem : P) (join : S → S → S) (none : S) (of : N → ℕ → S) (seen : R → LogView) (chunk : Chunk) where
+module _ {P N K S R : Type 0} (meaning : Ghosts P N K) (problem : P) (join : S → S → S) (none : S) (of : N → ℕ → S) (seen : R → LogView) (chunk : Chunk) (gap : ℕ) where
   -- the looks of a walk, by its answers
   looks-of : (body : List Note) (answers : List Bool) (before after : HandingView P N) → HasPolicy (search_tree meaning problem) hungry_policy (part_of_chunk chunk) answers body → (later : IsLaterHanding before after)
       → Some (answers_of after.seat.found) ≡ Some (answers_of before.seat.found ++ answers) → AreLooksOf (search_tree meaning problem) (part_of_chunk chunk) body later.looks
@@ -88,14 +88,14 @@ module _ {P N K S R : Type 0} (meaning : Ghosts P N K) (problem : P) (join : S �
   pub hand-step : (task : List ℕ) (made : List OutletCall → Type 0) (number : ℕ) (pass : PassView (Task N) (Members N)) (b0 b1 : SeatView) (h0 h1 : Hand S) (q0 q1 : Part) (o0 mid o1 : HandingView P N) (l0 l1 : R)
       → IsRanked (meaning.sound problem) (meaning.children problem) (meaning.rank problem) → meaning.sound problem (meaning.root problem) → IsSome (at_path (search_tree meaning problem) task)
       → q0 ≡ part_of_chunk chunk
-      → IsWalked meaning problem Plain join of hungry_policy task none made
+      → IsWalked meaning problem (Gap gap) join of hungry_policy task none made
       (scene b0 h0 q0 o0.seat.given (Some (answers_of o0.seat.found)) (seen l0)) (scene b1 h1 q1 mid.seat.given (Some (answers_of mid.seat.found)) (seen l1))
       → KeepsHanding o0 mid → IsLaterHanding o0 mid → o1 ≡ record mid { tasks = record mid.tasks { ended = mid.tasks.ended + 1 } }
       → b1.best ≡ b0.best → b1.share ≡ b0.share → 65535 ≤ h1.path.space
-      → IsStep (searched (search_tree meaning problem) join none of seen (Steal chunk) 0) task (station number b0 pass o0.seat o0.tasks h0 l0) (station number b1 pass o1.seat o1.tasks h1 l1)
+      → IsStep (searched (search_tree meaning problem) join none of seen (Steal chunk) gap) task (station number b0 pass o0.seat o0.tasks h0 l0) (station number b1 pass o1.seat o1.tasks h1 l1)
   hand-step task made number pass b0 b1 h0 h1 q0 q1 o0 mid o1 l0 l1 ranked root there chunk_is walked kept later ended seat_is share_is room =
       let t = search_tree meaning problem in
-      let s = searched t join none of seen (Steal chunk) 0 in
+      let s = searched t join none of seen (Steal chunk) gap in
       let w = walk-parts meaning problem s hungry_policy task made (scene b0 h0 q0 o0.seat.given (Some (answers_of o0.seat.found)) (seen l0)) (scene b1 h1 q1 mid.seat.given (Some (answers_of mid.seat.found)) (seen l1)) walked in
       let policy : HasPolicy t hungry_policy (part_of_chunk chunk) w.answers w.body = subst (λ q. HasPolicy t hungry_policy q w.answers w.body) chunk_is w.policy_groups in
       let has : HasGroups (SkeletonGroup t (by_steal (part_of_chunk chunk))) w.body = hungry-groups t w.answers w.body (part_of_chunk chunk) policy in
@@ -154,10 +154,10 @@ module _ {P N K S R : Type 0} (meaning : Ghosts P N K) (problem : P) (join : S �
 
   -- a refused walk, and the tasks that it had handed to others
   pub hand-broken : (task : List ℕ) (fault : SearchFault) (number : ℕ) (pass : PassView (Task N) (Members N)) (b0 b1 : SeatView) (h0 h1 : Hand S) (q0 q1 : Part) (o0 o1 : HandingView P N) (l0 l1 : R)
-      → IsRefused meaning problem Plain join of hungry_policy task
+      → IsRefused meaning problem (Gap gap) join of hungry_policy task
       (scene b0 h0 q0 o0.seat.given (Some (answers_of o0.seat.found)) (seen l0)) (scene b1 h1 q1 o1.seat.given (Some (answers_of o1.seat.found)) (seen l1)) fault
       → KeepsHanding o0 o1 → b1.best ≡ b0.best → b1.share ≡ b0.share
-      → IsBrokenStep (searched (search_tree meaning problem) join none of seen (Steal chunk) 0) task fault (station number b0 pass o0.seat o0.tasks h0 l0) (station number b1 pass o1.seat o1.tasks h1 l1)
+      → IsBrokenStep (searched (search_tree meaning problem) join none of seen (Steal chunk) gap) task fault (station number b0 pass o0.seat o0.tasks h0 l0) (station number b1 pass o1.seat o1.tasks h1 l1)
   hand-broken task fault number pass b0 b1 h0 h1 q0 q1 o0 o1 l0 l1 refused kept seat_is share_is = record {
     notes = refused.notes;
     ahead = refused.ahead;

@@ -9,7 +9,8 @@ use Rattle.yew_log.specs.Groups.{Skeleton}
 use Rattle.yew_walk.specs.Hands.{numbers_of}
 use Rattle.yew_walk.specs.LogViews.{LogView}
 use Rattle.yew_walk.specs.PlainSearch.{NeverCuts}
-use Rattle.yew_crew.specs.CrewSearch.{IsNear, IsMeeting, HasCrewLogs}
+use Rattle.yew_walk.specs.Answers.{IsNear}
+use Rattle.yew_crew.specs.CrewSearch.{IsMeeting, HasCrewLogs}
 
 -- a count cuts nothing
 pub counts-all : {N : Type 0} (t : SearchTree N) → NeverCuts (counted_tree t)

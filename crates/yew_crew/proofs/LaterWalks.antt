@@ -9,10 +9,10 @@ use Rattle.yew_laws.proofs.Members.{AllByRecursion-append, AllByRecursion-weaker
 use Rattle.yew_log.specs.HeldValues.{IsLater}
 use Rattle.yew_log.specs.Notes.{Note, taken, visited, cut, spawned, handed, ended, Judgement, judgement_in, judgements, visits, values, held_values}
 use Rattle.yew_log.specs.Segment.{Segment, entries, entries_in}
-use Rattle.yew_walk.specs.declared.keying.Keying.TheVariants.{Plain}
+use Rattle.yew_walk.specs.declared.keying.Keying.TheVariants.{Gap}
 use Rattle.yew_walk.specs.Seats.{SeatGoes, IsRead, has_offered}
 use Rattle.yew_walk.specs.WorkerLogs.{SeatGoesOn}
-use Rattle.yew_crew.specs.Working.{plain_walk}
+use Rattle.yew_crew.specs.Working.{gap_walk}
 
 -- the seat has read each held value of these entries and offered the worth of each visit
 pub record IsKnown (own : List Note) (seat : SeatView) : Type 0 where
@@ -38,13 +38,13 @@ module _ (own : List Note) where
     of_worths = AllByRecursion-weaker (Contains seat.offered) (λ h. h ≤ j.held) (λ h c. subst (λ w. h ≤ w) (sym is) (All-contains (λ x. x ≤ word) seat.offered h read.at_least_offered c)) (values (visits own)) k.worths;
   }
 
-  module _ {N : Type 0} (t : SearchTree N) where
+  module _ {N : Type 0} (t : SearchTree N) (gap : ℕ) where
     -- what a seat knows along entries, and that they are later
     pub record GoesLater (notes : List Note) (seat : SeatView) : Type 0 where
       pub later : AllByRecursion (IsLater own) (judgements notes)
       pub known : IsKnown own seat
 
-    pub goes-later : (a b : SeatView) (notes : List Note) → IsKnown own a → SeatGoes t Plain a notes b → GoesLater notes b
+    pub goes-later : (a b : SeatView) (notes : List Note) → IsKnown own a → SeatGoes t (Gap gap) a notes b → GoesLater notes b
     goes-later a b [] k g = record { later = tt; known = subst (IsKnown own) (sym g) k }
     goes-later a b (visited p w h ∷ ns) k g =
         let rest = goes-later (has_offered (has_read a g.0) w) b ns (known-offered (has_read a g.0) w (known-read a g.0 k)) g.2 in
@@ -58,7 +58,7 @@ module _ (own : List Note) where
     goes-later a b (ended p ∷ ns) k g = let rest = goes-later a b ns k g in record { later = rest.later; known = rest.known }
 
     -- all walks of one seat are later than what it knew before
-    pub all-later : (segments : List Segment) (a b : SeatView) → IsKnown own a → SeatGoesOn t a (map plain_walk segments) b → AllByRecursion (IsLater own) (judgements (entries segments))
+    pub all-later : (segments : List Segment) (a b : SeatView) → IsKnown own a → SeatGoesOn t a (map (gap_walk gap) segments) b → AllByRecursion (IsLater own) (judgements (entries segments))
     all-later [] a b k g = tt
     all-later (x ∷ xs) a b k g =
         let here = goes-later a g.0 (entries_in x) k g.1 in

@@ -1,4 +1,3 @@
-pub mod BestFinds
 pub mod BrokenSteps
 pub mod CrewClosed
 pub mod CrewEnds
@@ -19,7 +18,6 @@ pub mod KnownBefore
 pub mod LaterWalks
 pub mod LeftTasks
 pub mod LookSteps
-pub mod NearBest
 pub mod OnceOnly
 pub mod OpenSeating
 pub mod OpenStepping

@@ -18,7 +18,7 @@ use Rattle.yew_log.specs.Notes.{Note, Judgement, taken, visited, cut, spawned, h
 use Rattle.yew_log.specs.Places.{AtEach}
 use Rattle.yew_log.specs.Segment.{Segment, entries, entries_in, IsBroken, Begins, OneOfAKind}
 use Rattle.yew_crew.proofs.CrewClosed.{cut-there, cut-below, own-below}
-use Rattle.yew_crew.proofs.NearBest.{at_path-sound}
+use Rattle.yew_walk.proofs.NearBest.{at_path-sound}
 
 -- what a worker noted, and the paths of the tasks that it took and sent
 pub record Doing : Type 0 where

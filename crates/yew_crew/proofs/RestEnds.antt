@@ -30,7 +30,7 @@ use Rattle.yew_crew.specs.Stations.{Searched, skeleton_of}
 use Rattle.yew_crew.specs.declared.coord.Coord.{Coord}
 use Rattle.yew_crew.specs.declared.coord.Coord.TheVariants.{Depth, Budget, Steal}
 use Rattle.yew_crew.specs.declared.station.Station.{Station}
-use Rattle.yew_crew.proofs.BestFinds.{nothing, not_holding}
+use Rattle.yew_walk.proofs.BestFinds.{nothing, not_holding}
 use Rattle.yew_crew.proofs.CrewWork.{group-fits}
 use Rattle.yew_crew.proofs.Finished.{Finish, IsFinished, AreFinished}
 use Rattle.yew_crew.proofs.GroupLaws.{same-deals}

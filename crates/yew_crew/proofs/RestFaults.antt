@@ -26,7 +26,7 @@ use Rattle.yew_log.proofs.Walks.{IsJudged-append}
 use Rattle.yew_stack.specs.Splits.{paths_of}
 use Rattle.yew_walk.specs.declared.fault.SearchFault.{SearchFault}
 use Rattle.yew_walk.specs.declared.hand.Hand.{Hand}
-use Rattle.yew_walk.specs.declared.keying.Keying.TheVariants.{Plain}
+use Rattle.yew_walk.specs.declared.keying.Keying.TheVariants.{Gap}
 use Rattle.yew_walk.specs.LogViews.{LogView, log_after}
 use Rattle.yew_walk.specs.Scenes.{IsRefused, scene}
 use Rattle.yew_walk.specs.Seats.{SeatGoes}
@@ -38,7 +38,7 @@ use Rattle.yew_crew.specs.Reports.{IsDone}
 use Rattle.yew_crew.specs.Resting.{IsRestRefused}
 use Rattle.yew_crew.specs.Starting.{IsBegun}
 use Rattle.yew_crew.specs.Stations.{searched, skeleton_of}
-use Rattle.yew_crew.specs.Working.{plain_walk, IsWalkSegment}
+use Rattle.yew_crew.specs.Working.{gap_walk, IsWalkSegment}
 use Rattle.yew_crew.specs.declared.coord.Coord.{Coord}
 use Rattle.yew_crew.specs.declared.coord.Coord.TheVariants.{Depth}
 use Rattle.yew_crew.specs.declared.station.Shared.{Shared}
@@ -53,24 +53,24 @@ use Rattle.yew_crew.proofs.WalkedParts.{ones, sent-dealt}
 use Rattle.yew_crew.proofs.WorkDone.{each-segment}
 use Rattle.yew_crew.proofs.WorkRefused.{goes-front, without-last, broken-work}
 
-module _ {P N K S R : Type 0} (meaning : Ghosts P N K) (problem : P) (join : S → S → S) (none : S) (of : N → ℕ → S) (seen : R → LogView)
+module _ {P N K S R : Type 0} (meaning : Ghosts P N K) (problem : P) (join : S → S → S) (none : S) (of : N → ℕ → S) (seen : R → LogView) (gap : ℕ)
     {fits : S → Type 0} (tally : IsTally fits join none) (of_fits : (n : N) (depth : ℕ) → fits (of n depth)) (table : TableId) where
   -- the walk of the last of the tasks that are left was refused
   pub resting-refused : (b0 : SeatView) (h0 : Hand S) (l0 : R) (b : SeatView) (h : Hand S) (l : R) (b' : SeatView) (h' : Hand S) (l' : R)
       (all left left' : List (Task N)) (task : Task N) (sent0 sent : List (Task N)) (fault : SearchFault) → left ≡ left' ++ task ∷ []
-      → IsResting meaning problem join none of seen tally of_fits table b0 h0 l0 b h l all left
-      → IsRefused meaning problem Plain join of plain_policy task.path.numbers
+      → IsResting meaning problem join none of seen gap tally of_fits table b0 h0 l0 b h l all left
+      → IsRefused meaning problem (Gap gap) join of plain_policy task.path.numbers
       (scene b h tt sent0 None (seen l)) (scene b' h' tt sent None (seen l')) fault
-      → IsRestRefused (searched (search_tree meaning problem) join none of seen (Depth 0) 0) (paths_of all) fault b0 l0 b' l'
+      → IsRestRefused (searched (search_tree meaning problem) join none of seen (Depth 0) gap) (paths_of all) fault b0 l0 b' l'
   resting-refused b0 h0 l0 b h l b' h' l' all left left' task sent0 sent fault left_is resting refused =
       let t = search_tree meaning problem in
-      let s = searched t join none of seen (Depth 0) 0 in
+      let s = searched t join none of seen (Depth 0) gap in
       let w = resting.work in
       let done = entries w.segments in
-      let whole = without-last t s refl b0 b w.segments w.walks w.goes in
+      let whole = without-last t gap s refl refl b0 b w.segments w.walks w.goes in
       let task_path = task.path.numbers in
       let with_ahead = refused.notes ++ refused.ahead in
-      let front = goes-front t b b' refused.notes refused.ahead refused.goes in
+      let front = goes-front t gap b b' refused.notes refused.ahead refused.goes in
       record {
         segments = w.segments;
         task = task.path.numbers;
@@ -96,8 +96,8 @@ module _ {P N K S R : Type 0} (meaning : Ghosts P N K) (problem : P) (join : S �
         };
         broken = refused.keeps_ahead;
         part = refused.part;
-        keeps = (broken-work t s refl task_path b0 b front.0 w.segments refused.notes w.walks w.goes front.1 refused.keeps).1.keeps;
-        keeps_ahead = (broken-work t s refl task_path b0 b b' w.segments with_ahead w.walks w.goes refused.goes refused.keeps_ahead).1.keeps;
+        keeps = (broken-work t gap s refl refl task_path b0 b front.0 w.segments refused.notes w.walks w.goes front.1 refused.keeps).1.keeps;
+        keeps_ahead = (broken-work t gap s refl refl task_path b0 b b' w.segments with_ahead w.walks w.goes refused.goes refused.keeps_ahead).1.keeps;
         between = b;
         goes = w.goes;
         goes_last = refused.goes;
@@ -116,16 +116,16 @@ other-before : (b b' : List Segment) (segments : List Segment) → AtEach (λ _ 
 other-before b b' [] at = tt
 other-before b b' (x ∷ xs) at = (at.0, other-before (b ++ x ∷ []) (b' ++ x ∷ []) xs at.1)
 
-module _ {N : Type 0} (t : SearchTree N) where
+module _ {N : Type 0} (t : SearchTree N) (gap : ℕ) where
   whole-then : (before own last : List Segment) → AllByRecursion (IsSegment t) own → AtEach (λ _ (x : Segment) a. x.body ≡ [] → a ≡ []) [] last
       → AtEach (λ _ (x : Segment) a. x.body ≡ [] → a ≡ []) before (own ++ last)
   whole-then before [] last each at = other-before [] before last at
   whole-then before (x ∷ xs) last each at = ((λ e. absurd (subst (Begins x.task) e each.0.begins)), whole-then (before ++ x ∷ []) xs last each.1 at)
 
   -- walks, and then entries that were broken off, whose held values are later
-  pub walks-then : (rule : List Note → Note → List Note → Type 0) (own : List Segment) (more : List Note) → AreWalks t 0 plain rule own
-      → AllByRecursion (IsBroken t) own → IsBrokenLog t 0 plain more → AllByRecursion (IsLater (entries own)) (judgements more)
-      → IsBrokenLog t 0 plain (entries own ++ more)
+  pub walks-then : (rule : List Note → Note → List Note → Type 0) (own : List Segment) (more : List Note) → AreWalks t gap plain rule own
+      → AllByRecursion (IsBroken t) own → IsBrokenLog t gap plain more → AllByRecursion (IsLater (entries own)) (judgements more)
+      → IsBrokenLog t gap plain (entries own ++ more)
   walks-then rule own more walks broken kept later =
       let rises = HeldRises-append (entries own) more walks.held_rises kept.held_rises later in
       record {
@@ -134,26 +134,26 @@ module _ {N : Type 0} (t : SearchTree N) where
         each = AllByRecursion-append (IsBroken t) own kept.segments broken kept.each;
         only_last = whole-then [] own kept.segments walks.each kept.only_last;
         held_rises = rises;
-        due = IsJudged-append t 0 (entries own) more rises walks.due kept.due;
+        due = IsJudged-append t gap (entries own) more rises walks.due kept.due;
       }
 
   -- a seat that has gone on still knows what it knew
-  known-on : (own : List Note) (segments : List Segment) (a b : SeatView) → IsKnown own a → SeatGoesOn t a (map plain_walk segments) b → IsKnown own b
+  known-on : (own : List Note) (segments : List Segment) (a b : SeatView) → IsKnown own a → SeatGoesOn t a (map (gap_walk gap) segments) b → IsKnown own b
   known-on own [] a b known goes = subst (IsKnown own) (sym goes) known
-  known-on own (x ∷ xs) a b known goes = known-on own xs goes.0 b (goes-later own t a goes.0 (entries_in x) known goes.1).known goes.2
+  known-on own (x ∷ xs) a b known goes = known-on own xs goes.0 b (goes-later own t gap a goes.0 (entries_in x) known goes.1).known goes.2
 
   -- walks of a seat, and the entries of one more, are later than what it knew before
   rest-later : (own : List Note) (segments : List Segment) (more : List Note) (a between b : SeatView) → IsKnown own a
-      → SeatGoesOn t a (map plain_walk segments) between → SeatGoes t Plain between more b
+      → SeatGoesOn t a (map (gap_walk gap) segments) between → SeatGoes t (Gap gap) between more b
       → AllByRecursion (IsLater own) (judgements (entries segments ++ more))
   rest-later own segments more a between b known goes goes_last =
       subst (AllByRecursion (IsLater own)) (sym (flat_map-append judgement_in (entries segments) more))
-      (AllByRecursion-append (IsLater own) (judgements (entries segments)) (judgements more) (all-later own t segments a between known goes)
-      (goes-later own t between b more (known-on own segments a between known goes) goes_last).later)
+      (AllByRecursion-append (IsLater own) (judgements (entries segments)) (judgements more) (all-later own t gap segments a between known goes)
+      (goes-later own t gap between b more (known-on own segments a between known goes) goes_last).later)
 
-module _ {N S R : Type 0} (t : SearchTree N) (join : S → S → S) (none : S) (of : N → ℕ → S) (seen : R → LogView) (coord : Coord) (before after : Station N S R)
-    (done : IsDone (searched t join none of seen coord 0) before after) (paths : List (List ℕ)) (fault : SearchFault) (seat seat' : SeatView) (log' : R)
-    (rest : IsRestRefused (searched t join none of seen (Depth 0) 0) paths fault seat after.log seat' log') where
+module _ {N S R : Type 0} (t : SearchTree N) (join : S → S → S) (none : S) (of : N → ℕ → S) (seen : R → LogView) (coord : Coord) (gap : ℕ) (before after : Station N S R)
+    (done : IsDone (searched t join none of seen coord gap) before after) (paths : List (List ℕ)) (fault : SearchFault) (seat seat' : SeatView) (log' : R)
+    (rest : IsRestRefused (searched t join none of seen (Depth 0) gap) paths fault seat after.log seat' log') where
   -- the entries of the first worker, and behind them what the caller noted in its place
   abbrev pub with-rest : List Note
   with-rest = entries done.segments.segments ++ (entries rest.segments ++ rest.notes)
@@ -165,22 +165,22 @@ module _ {N S R : Type 0} (t : SearchTree N) (join : S → S → S) (none : S) (
       append_assoc own (entries rest.segments ++ rest.notes) rest.ahead ∙ ap (λ l. own ++ l) (append_assoc (entries rest.segments) rest.notes rest.ahead)
 
   -- they are a log that was broken off
-  rest-keeps : AllByRecursion (IsBroken t) done.segments.segments → IsKnown (entries done.segments.segments) seat → IsBrokenLog t 0 plain with-rest
+  rest-keeps : AllByRecursion (IsBroken t) done.segments.segments → IsKnown (entries done.segments.segments) seat → IsBrokenLog t gap plain with-rest
   rest-keeps broken known =
       let own = done.segments.segments in
-      let front = goes-front t rest.between seat' rest.notes rest.ahead rest.goes_last in
-      walks-then t _ own (entries rest.segments ++ rest.notes) done.segments.walks broken rest.keeps
-      (rest-later t (entries own) rest.segments rest.notes seat rest.between front.0 known rest.goes front.1)
+      let front = goes-front t gap rest.between seat' rest.notes rest.ahead rest.goes_last in
+      walks-then t gap _ own (entries rest.segments ++ rest.notes) done.segments.walks broken rest.keeps
+      (rest-later t gap (entries own) rest.segments rest.notes seat rest.between front.0 known rest.goes front.1)
 
   -- and also with the entry ahead
   rest-keeps_ahead : AllByRecursion (IsBroken t) done.segments.segments → IsKnown (entries done.segments.segments) seat
-      → IsBrokenLog t 0 plain (with-rest ++ rest.ahead)
+      → IsBrokenLog t gap plain (with-rest ++ rest.ahead)
   rest-keeps_ahead broken known =
       let own = done.segments.segments in
       let last = rest.notes ++ rest.ahead in
-      subst (IsBrokenLog t 0 plain) (sym with-ahead)
-      (walks-then t _ own (entries rest.segments ++ last) done.segments.walks broken rest.keeps_ahead
-      (rest-later t (entries own) rest.segments last seat rest.between seat' known rest.goes rest.goes_last))
+      subst (IsBrokenLog t gap plain) (sym with-ahead)
+      (walks-then t gap _ own (entries rest.segments ++ last) done.segments.walks broken rest.keeps_ahead
+      (rest-later t gap (entries own) rest.segments last seat rest.between seat' known rest.goes rest.goes_last))
 
   -- what the first worker did and what the caller did in its place, which sent nothing
   abbrev pub doing-with_rest : Doing
@@ -208,7 +208,7 @@ module _ {N S R : Type 0} (t : SearchTree N) (join : S → S → S) (none : S) (
               let d = ap (sum_by h) (flat_map-append taken_in (entries rest.segments) last) in
               let e = sum_by-append h (taken_paths (entries rest.segments)) (taken_paths last) in
               let f = ap (sum_by h) (taken-segments t rest.segments rest.walks.each) in
-              let g = taken-broken t h rest.task last rest.broken in
+              let g = taken-broken t gap h rest.task last rest.broken in
               let i = done.segments.tasks_are.weighs h in
               let j = rest.taken_are.weighs h in
               let k = sum_by-append h (tasks_of rest.segments) (rest.task ∷ []) in
@@ -247,11 +247,11 @@ module _ {N S R : Type 0} (t : SearchTree N) (join : S → S → S) (none : S) (
   pub rest-fault : (shared : Shared N) (made : ℕ) (put : List (Task N)) (workers : ℕ) (tells : Type 0)
       → IsBegun (members_of t) none seen shared 0 made put before
       → AllByRecursion (IsBroken t) done.segments.segments → IsKnown (entries done.segments.segments) seat → 1 < workers
-      → OneOfAKind (with-rest ++ rest.ahead) → (IsSome (seen log').told → tells) → IsCrewFault t 0 (skeleton_of coord) workers tells fault
+      → OneOfAKind (with-rest ++ rest.ahead) → (IsSome (seen log').told → tells) → IsCrewFault t gap (skeleton_of coord) workers tells fault
   rest-fault shared made put workers tells begun broken known several one telling =
       let own = entries done.segments.segments in
       let more = entries rest.segments ++ rest.notes in
       let log_is = rest.log_is ∙ (ap (λ v. log_after v more) done.segments.log_is ∙ sym (log_after-append (seen before.log) own more)) in
-      full-audit t 0 coord workers 1 tells (seen before.log) (seen log') with-rest fault rest.ahead rest.cause
+      full-audit t gap coord workers 1 tells (seen before.log) (seen log') with-rest fault rest.ahead rest.cause
       begun.told begun.log_number (omega arith) (omega arith) log_is
       (rest-keeps broken known) (rest-keeps_ahead broken known) (λ e. absurd (omega arith)) telling one

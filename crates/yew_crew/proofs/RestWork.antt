@@ -23,8 +23,8 @@ use Rattle.yew_crew.proofs.WalkedParts.{same-length}
 abbrev pub retold : {N S : Type 0} → Group N S → List (List ℕ) → List (List ℕ) → Group N S
 retold g took got = record g { took = took; got = got }
 
-module _ {N S : Type 0} (t : SearchTree N) (join : S → S → S) (none : S) (of : N → ℕ → S) where
-  pub rebalanced : (g : Group N S) (took got : List (List ℕ)) → SameBag (took ++ got) (taken g) → IsBalanced t 0 join none of g → IsBalanced t 0 join none of (retold g took got)
+module _ {N S : Type 0} (t : SearchTree N) (gap : ℕ) (join : S → S → S) (none : S) (of : N → ℕ → S) where
+  pub rebalanced : (g : Group N S) (took got : List (List ℕ)) → SameBag (took ++ got) (taken g) → IsBalanced t gap join none of g → IsBalanced t gap join none of (retold g took got)
   rebalanced g took got same b = record {
     covered = same-trans b.covered (same-sym (same-flat_map (below t) same));
     walked = record { weighs = λ h. (let a = b.walked.weighs h in let c = same.weighs h in omega arith) };
@@ -41,9 +41,9 @@ module _ {N S : Type 0} (t : SearchTree N) (join : S → S → S) (none : S) (of
     sum_is = b.sum_is;
   }
 
-module _ {N S R : Type 0} (t : SearchTree N) (join : S → S → S) (none : S) (of : N → ℕ → S) (seen : R → LogView) (coord : Coord) where
+module _ {N S R : Type 0} (t : SearchTree N) (join : S → S → S) (none : S) (of : N → ℕ → S) (seen : R → LogView) (coord : Coord) (gap : ℕ) where
   abbrev pub rest-work : (own : List Note) (pool mail left : List (Task N)) (seat seat' : SeatView) (hand hand' : Hand S) (log log' : R) → left ≡ pool ++ mail → IsKnown own seat
-      → IsRested (searched t join none of seen (Depth 0) 0) (paths_of left) seat hand log seat' hand' log' → IsRestWork (searched t join none of seen coord 0) own hand log hand' log'
+      → IsRested (searched t join none of seen (Depth 0) gap) (paths_of left) seat hand log seat' hand' log' → IsRestWork (searched t join none of seen coord gap) own hand log hand' log'
   rest-work own pool mail left seat seat' hand hand' log log' left_is known r =
       let g = r.group in
       let all : SameBag (paths_of pool ++ paths_of mail) (taken g) =
@@ -52,7 +52,7 @@ module _ {N S R : Type 0} (t : SearchTree N) (join : S → S → S) (none : S) (
       record {
         group = retold g (paths_of pool) (paths_of mail);
         segments = r.segments;
-        balanced = rebalanced t join none of g (paths_of pool) (paths_of mail) all r.balanced;
+        balanced = rebalanced t gap join none of g (paths_of pool) (paths_of mail) all r.balanced;
         walks = r.walks;
         visits_are = r.visits_are;
         cuts_are = r.cuts_are;
@@ -60,7 +60,7 @@ module _ {N S R : Type 0} (t : SearchTree N) (join : S → S → S) (none : S) (
         sent_none = r.sent_none;
         put_none = r.put_none;
         given_none = r.given_none;
-        later = all-later own t r.segments seat seat' known r.goes;
+        later = all-later own t gap r.segments seat seat' known r.goes;
         log_is = r.log_is;
         best_is = r.best_is;
         sum_is = r.sum_is;

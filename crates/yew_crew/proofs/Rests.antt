@@ -29,7 +29,7 @@ use Rattle.yew_mail.specs.declared.view.Ask.TheVariants.{Nowhere}
 use Rattle.yew_mail.specs.declared.view.OwnBox.TheVariants.{Unknown}
 use Rattle.yew_stack.specs.Splits.{paths_of}
 use Rattle.yew_walk.specs.declared.hand.Hand.{Hand}
-use Rattle.yew_walk.specs.declared.keying.Keying.TheVariants.{Plain}
+use Rattle.yew_walk.specs.declared.keying.Keying.TheVariants.{Gap}
 use Rattle.yew_walk.specs.LogViews.{LogView}
 use Rattle.yew_walk.specs.Outlets.{OutletCall}
 use Rattle.yew_walk.specs.Scenes.{IsWalked, scene}
@@ -89,12 +89,13 @@ resting table seat hand log took count = record {
   log = log;
 }
 
-module _ {P N K S R : Type 0} (meaning : Ghosts P N K) (problem : P) (join : S → S → S) (none : S) (of : N → ℕ → S) (seen : R → LogView) {fits : S → Type 0} (tally : IsTally fits join none) (of_fits : (n : N) (depth : ℕ) → fits (of n depth)) (table : TableId) where
+module _ {P N K S R : Type 0} (meaning : Ghosts P N K) (problem : P) (join : S → S → S) (none : S) (of : N → ℕ → S) (seen : R → LogView) (gap : ℕ)
+    {fits : S → Type 0} (tally : IsTally fits join none) (of_fits : (n : N) (depth : ℕ) → fits (of n depth)) (table : TableId) where
   -- what is left of the tasks is still to be walked
   pub rest-begins : (b : SeatView) (h : Hand S) (l : R) (left : List (Task N)) → fits h.sum → 65535 ≤ h.path.space
-      → IsWorking (searched (search_tree meaning problem) join none of seen (Depth 0) 0) (paths_of left) (resting table b h l [] 0) (resting table b h l left 0)
+      → IsWorking (searched (search_tree meaning problem) join none of seen (Depth 0) gap) (paths_of left) (resting table b h l [] 0) (resting table b h l left 0)
   rest-begins b h l left f room =
-      let w = work-begins (searched (search_tree meaning problem) join none of seen (Depth 0) 0) tally (resting table b h l [] 0) f room in
+      let w = work-begins (searched (search_tree meaning problem) join none of seen (Depth 0) gap) tally (resting table b h l [] 0) f room in
       record {
         segments = [];
         members = [];
@@ -124,12 +125,12 @@ module _ {P N K S R : Type 0} (meaning : Ghosts P N K) (problem : P) (join : S �
   -- one walk by the caller
   rest-step : (task : List ℕ) (made : List OutletCall → Type 0) (b0 b1 : SeatView) (h0 h1 : Hand S) (sent0 sent : List (Task N)) (l0 l1 : R) (took : List (Task N)) (k : ℕ)
       → IsRanked (meaning.sound problem) (meaning.children problem) (meaning.rank problem) → meaning.sound problem (meaning.root problem) → IsSome (at_path (search_tree meaning problem) task)
-      → IsWalked meaning problem Plain join of plain_policy task none made (scene b0 h0 tt sent0 None (seen l0)) (scene b1 h1 tt sent None (seen l1))
+      → IsWalked meaning problem (Gap gap) join of plain_policy task none made (scene b0 h0 tt sent0 None (seen l0)) (scene b1 h1 tt sent None (seen l1))
       → b1.best ≡ b0.best → b1.share ≡ b0.share → 65535 ≤ h1.path.space
-      → IsStep (searched (search_tree meaning problem) join none of seen (Depth 0) 0) task (resting table b0 h0 l0 took k) (resting table b1 h1 l1 took (k + 1))
+      → IsStep (searched (search_tree meaning problem) join none of seen (Depth 0) gap) task (resting table b0 h0 l0 took k) (resting table b1 h1 l1 took (k + 1))
   rest-step task made b0 b1 h0 h1 sent0 sent l0 l1 took k ranked root there walked seat_is share_is room =
       let t = search_tree meaning problem in
-      let s = searched t join none of seen (Depth 0) 0 in
+      let s = searched t join none of seen (Depth 0) gap in
       let w = walk-parts meaning problem s plain_policy task made (scene b0 h0 tt sent0 None (seen l0)) (scene b1 h1 tt sent None (seen l1)) walked in
       let depth : HasGroups (SkeletonGroup t (by_depth 0)) w.body = policy-groups t plain_policy tt w.answers (SkeletonGroup t (by_depth 0)) w.body w.policy_groups (λ before note x wanted more is. none-above note _) in
       let steal : HasGroups (SkeletonGroup t (by_steal one)) w.body = policy-groups t plain_policy tt w.answers (SkeletonGroup t (by_steal one)) w.body w.policy_groups (λ before note x wanted more is. inl refl) in
@@ -164,8 +165,8 @@ module _ {P N K S R : Type 0} (meaning : Ghosts P N K) (problem : P) (join : S �
         looks = tt;
       }
 
-  reordered : (rest rest' : List (List ℕ)) (first now : Station N S R) → SameBag rest rest' → IsWorking (searched (search_tree meaning problem) join none of seen (Depth 0) 0) rest first now
-      → IsWorking (searched (search_tree meaning problem) join none of seen (Depth 0) 0) rest' first now
+  reordered : (rest rest' : List (List ℕ)) (first now : Station N S R) → SameBag rest rest' → IsWorking (searched (search_tree meaning problem) join none of seen (Depth 0) gap) rest first now
+      → IsWorking (searched (search_tree meaning problem) join none of seen (Depth 0) gap) rest' first now
   reordered rest rest' first now same w = record {
     segments = w.segments;
     members = w.members;
@@ -198,12 +199,12 @@ module _ {P N K S R : Type 0} (meaning : Ghosts P N K) (problem : P) (join : S �
   pub rest-more : (task : Task N) (left left' : List (Task N)) (made : List OutletCall → Type 0) (first : Station N S R) (b0 b1 : SeatView) (h0 h1 : Hand S) (sent0 sent : List (Task N)) (l0 l1 : R) (took : List (Task N)) (k : ℕ)
       → IsRanked (meaning.sound problem) (meaning.children problem) (meaning.rank problem) → meaning.sound problem (meaning.root problem) → at_path (search_tree meaning problem) task.path.numbers ≡ Some task.node
       → fits first.hand.sum → left ≡ left' ++ task ∷ []
-      → IsWorking (searched (search_tree meaning problem) join none of seen (Depth 0) 0) (paths_of left) first (resting table b0 h0 l0 took k)
-      → IsWalked meaning problem Plain join of plain_policy task.path.numbers none made (scene b0 h0 tt sent0 None (seen l0)) (scene b1 h1 tt sent None (seen l1))
+      → IsWorking (searched (search_tree meaning problem) join none of seen (Depth 0) gap) (paths_of left) first (resting table b0 h0 l0 took k)
+      → IsWalked meaning problem (Gap gap) join of plain_policy task.path.numbers none made (scene b0 h0 tt sent0 None (seen l0)) (scene b1 h1 tt sent None (seen l1))
       → b1.best ≡ b0.best → b1.share ≡ b0.share → 65535 ≤ h1.path.space
-      → IsWorking (searched (search_tree meaning problem) join none of seen (Depth 0) 0) (paths_of left') first (resting table b1 h1 l1 took (k + 1))
+      → IsWorking (searched (search_tree meaning problem) join none of seen (Depth 0) gap) (paths_of left') first (resting table b1 h1 l1 took (k + 1))
   rest-more task left left' made first b0 b1 h0 h1 sent0 sent l0 l1 took k ranked root there f left_is w walked seat_is share_is room =
-      let s = searched (search_tree meaning problem) join none of seen (Depth 0) 0 in
+      let s = searched (search_tree meaning problem) join none of seen (Depth 0) gap in
       work-more s tally of_fits task.path.numbers (paths_of left') first (resting table b0 h0 l0 took k) (resting table b1 h1 l1 took (k + 1)) f
       (reordered (paths_of left) (task.path.numbers ∷ paths_of left') first (resting table b0 h0 l0 took k)
       (same-trans (same-is (ap paths_of left_is)) (last-first left')) w)
@@ -220,24 +221,24 @@ module _ {P N K S R : Type 0} (meaning : Ghosts P N K) (problem : P) (join : S �
 
   -- all was walked
   pub rest-ends : (left left' : List (Task N)) (b0 b1 : SeatView) (h0 h1 : Hand S) (l0 l1 : R) (took : List (Task N)) (k : ℕ) → left' ≡ [] → took ≡ left
-      → IsWorking (searched (search_tree meaning problem) join none of seen (Depth 0) 0) (paths_of left') (resting table b0 h0 l0 [] 0) (resting table b1 h1 l1 took k)
-      → IsRested (searched (search_tree meaning problem) join none of seen (Depth 0) 0) (paths_of left) b0 h0 l0 b1 h1 l1
+      → IsWorking (searched (search_tree meaning problem) join none of seen (Depth 0) gap) (paths_of left') (resting table b0 h0 l0 [] 0) (resting table b1 h1 l1 took k)
+      → IsRested (searched (search_tree meaning problem) join none of seen (Depth 0) gap) (paths_of left) b0 h0 l0 b1 h1 l1
   rest-ends left left' b0 b1 h0 h1 l0 l1 took k none_left took_is w' =
       let t = search_tree meaning problem in
-      let s = searched t join none of seen (Depth 0) 0 in
+      let s = searched t join none of seen (Depth 0) gap in
       let first = resting table b0 h0 l0 [] 0 in let now = resting table b1 h1 l1 took k in
       let w : IsWorking s [] first now = subst (λ ts. IsWorking s (paths_of ts) first now) none_left w' in
-      let done = work-group t join none of seen (Depth 0) first now w in
-      let segs = work-segments t join none of seen (Depth 0) first now w in
-      let group_is = work-group-is t join none of seen (Depth 0) first now w in
+      let done = work-group t join none of seen (Depth 0) gap first now w in
+      let segs = work-segments t join none of seen (Depth 0) gap first now w in
+      let group_is = work-group-is t join none of seen (Depth 0) gap first now w in
       let put_none : w.put ≡ [] = empty-bag w.put w.moved.put_is in
       let given_none : w.given ≡ [] = empty-bag w.given w.moved.given_is in
       let notes = entries w.segments in
       record {
-        group = group-of t join none of seen (Depth 0) first now w;
+        group = group-of t join none of seen (Depth 0) gap first now w;
         segments = w.segments;
-        balanced = subst (IsBalanced t 0 join none of) group_is done.balanced;
-        walks = subst (AreWalks t 0 plain NoGroup) (work-segments-are t join none of seen (Depth 0) first now w)
+        balanced = subst (IsBalanced t gap join none of) group_is done.balanced;
+        walks = subst (AreWalks t gap plain NoGroup) (work-segments-are t join none of seen (Depth 0) gap first now w)
             record { each = segs.walks.each; groups = AllByRecursion-weaker (λ (x : Segment). HasGroups (SkeletonGroup t (by_depth 0)) x.body) (λ (x : Segment). HasGroups NoGroup x.body) (λ x g. depth-none t x.body g) segs.segments segs.walks.groups; held_rises = segs.walks.held_rises; due = segs.walks.due };
         visits_are = refl;
         cuts_are = refl;
@@ -260,7 +261,7 @@ module _ {P N K S R : Type 0} (meaning : Ghosts P N K) (problem : P) (join : S �
   -- The caller at work upon these tasks: some are left to be walked
   pub record IsResting (b0 : SeatView) (h0 : Hand S) (l0 : R) (b : SeatView) (h : Hand S) (l : R) (all left : List (Task N)) : Type 0 where
     pub count : ℕ
-    pub work : IsWorking (searched (search_tree meaning problem) join none of seen (Depth 0) 0) (paths_of left) (resting table b0 h0 l0 [] 0) (resting table b h l all count)
+    pub work : IsWorking (searched (search_tree meaning problem) join none of seen (Depth 0) gap) (paths_of left) (resting table b0 h0 l0 [] 0) (resting table b h l all count)
     pub best : b.best ≡ b0.best
     pub share : b.share ≡ b0.share
     pub space : 65535 ≤ h.path.space
@@ -282,7 +283,7 @@ module _ {P N K S R : Type 0} (meaning : Ghosts P N K) (problem : P) (join : S �
   pub resting-more : (b0 : SeatView) (h0 : Hand S) (l0 : R) (b : SeatView) (h : Hand S) (l : R) (b' : SeatView) (h' : Hand S) (l' : R) (all left left' : List (Task N)) (task : Task N) (made : List OutletCall → Type 0) (sent0 sent : List (Task N))
       → IsRanked (meaning.sound problem) (meaning.children problem) (meaning.rank problem) → meaning.sound problem (meaning.root problem)
       → left ≡ left' ++ task ∷ [] → IsResting b0 h0 l0 b h l all left
-      → IsWalked meaning problem Plain join of plain_policy task.path.numbers none made (scene b h tt sent0 None (seen l)) (scene b' h' tt sent None (seen l'))
+      → IsWalked meaning problem (Gap gap) join of plain_policy task.path.numbers none made (scene b h tt sent0 None (seen l)) (scene b' h' tt sent None (seen l'))
       → b'.best ≡ b.best → b'.share ≡ b.share → h'.path.space ≡ h.path.space → fits h'.sum → IsResting b0 h0 l0 b' h' l' all left'
   resting-more b0 h0 l0 b h l b' h' l' all left left' task made sent0 sent ranked root is w walked best share space f =
       let each = all_but_last (IsAmong (members_of (search_tree meaning problem))) left' task (subst (AllByRecursion (IsAmong (members_of (search_tree meaning problem)))) is w.sound) in
@@ -299,5 +300,5 @@ module _ {P N K S R : Type 0} (meaning : Ghosts P N K) (problem : P) (join : S �
       }
 
   pub resting-ends : (b0 : SeatView) (h0 : Hand S) (l0 : R) (b : SeatView) (h : Hand S) (l : R) (all left : List (Task N)) → left ≡ [] → IsResting b0 h0 l0 b h l all left
-      → IsRested (searched (search_tree meaning problem) join none of seen (Depth 0) 0) (paths_of all) b0 h0 l0 b h l
+      → IsRested (searched (search_tree meaning problem) join none of seen (Depth 0) gap) (paths_of all) b0 h0 l0 b h l
   resting-ends b0 h0 l0 b h l all left none_left w = rest-ends all left b0 b h0 h l0 l all w.count none_left refl w.work

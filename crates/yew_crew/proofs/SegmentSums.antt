@@ -9,10 +9,10 @@ use Rattle.yew_laws.proofs.Members.{AllByRecursion-append}
 use Rattle.yew_log.specs.Lawful.{tasks_of}
 use Rattle.yew_log.specs.Notes.{Note, taken, visited, cut, spawned, handed, ended, Judgement, values, held_values, visits, judgements, judgement_in, visit_in, visited_paths, cut_paths, sent_paths, taken_paths, taken_in}
 use Rattle.yew_log.specs.Segment.{Segment, entries, entries_in, IsSegment, Begins, covered_paths}
-use Rattle.yew_walk.specs.declared.keying.Keying.TheVariants.{Plain}
+use Rattle.yew_walk.specs.declared.keying.Keying.TheVariants.{Gap}
 use Rattle.yew_walk.specs.Seats.{SeatGoes, has_offered}
 use Rattle.yew_walk.specs.WorkerLogs.{SeatGoesOn}
-use Rattle.yew_crew.specs.Working.{plain_walk}
+use Rattle.yew_crew.specs.Working.{gap_walk}
 
 module _ {N : Type 0} (t : SearchTree N) (h : List ℕ → ℕ) where
   -- what entries stand for, weighed
@@ -100,24 +100,24 @@ module _ {N : Type 0} (t : SearchTree N) where
     pub reads : new.read ≡ old.read ++ held_values (judgements notes)
     pub offers : new.offered ≡ old.offered ++ values (visits notes)
 
-  pub has-gone : (old : SeatView) (notes : List Note) (new : SeatView) → SeatGoes t Plain old notes new → HasGone old notes new
-  has-gone old [] new g = record { reads = ap (λ (s : SeatView). s.read) g ∙ sym (append-nil old.read); offers = ap (λ (s : SeatView). s.offered) g ∙ sym (append-nil old.offered) }
-  has-gone old (visited p w held ∷ notes) new g =
-      let r = has-gone (has_offered (has_read old g.0) w) notes new g.2 in
+  pub has-gone : (gap : ℕ) (old : SeatView) (notes : List Note) (new : SeatView) → SeatGoes t (Gap gap) old notes new → HasGone old notes new
+  has-gone gap old [] new g = record { reads = ap (λ (s : SeatView). s.read) g ∙ sym (append-nil old.read); offers = ap (λ (s : SeatView). s.offered) g ∙ sym (append-nil old.offered) }
+  has-gone gap old (visited p w held ∷ notes) new g =
+      let r = has-gone gap (has_offered (has_read old g.0) w) notes new g.2 in
       record {
         reads = r.reads ∙ (append_assoc old.read (g.0 ∷ []) (held_values (judgements notes)) ∙ ap (λ x. old.read ++ x ∷ held_values (judgements notes)) (sym g.1.held_is));
         offers = r.offers ∙ append_assoc old.offered (w ∷ []) (values (visits notes));
       }
-  has-gone old (cut p b held ∷ notes) new g =
-      let r = has-gone (has_read old g.0) notes new g.2 in
+  has-gone gap old (cut p b held ∷ notes) new g =
+      let r = has-gone gap (has_read old g.0) notes new g.2 in
       record {
         reads = r.reads ∙ (append_assoc old.read (g.0 ∷ []) (held_values (judgements notes)) ∙ ap (λ x. old.read ++ x ∷ held_values (judgements notes)) (sym g.1.held_is));
         offers = r.offers;
       }
-  has-gone old (taken p ∷ notes) new g = let r = has-gone old notes new g in record { reads = r.reads; offers = r.offers }
-  has-gone old (spawned p ∷ notes) new g = let r = has-gone old notes new g in record { reads = r.reads; offers = r.offers }
-  has-gone old (handed p ∷ notes) new g = let r = has-gone old notes new g in record { reads = r.reads; offers = r.offers }
-  has-gone old (ended p ∷ notes) new g = let r = has-gone old notes new g in record { reads = r.reads; offers = r.offers }
+  has-gone gap old (taken p ∷ notes) new g = let r = has-gone gap old notes new g in record { reads = r.reads; offers = r.offers }
+  has-gone gap old (spawned p ∷ notes) new g = let r = has-gone gap old notes new g in record { reads = r.reads; offers = r.offers }
+  has-gone gap old (handed p ∷ notes) new g = let r = has-gone gap old notes new g in record { reads = r.reads; offers = r.offers }
+  has-gone gap old (ended p ∷ notes) new g = let r = has-gone gap old notes new g in record { reads = r.reads; offers = r.offers }
 
   held-append : (xs ys : List Judgement) → held_values (xs ++ ys) ≡ held_values xs ++ held_values ys
   held-append [] ys = refl
@@ -128,11 +128,11 @@ module _ {N : Type 0} (t : SearchTree N) where
   values-append (x ∷ xs) ys = ap (λ l. x.value ∷ l) (values-append xs ys)
 
   -- likewise along all segments
-  pub has-gone_on : (segments : List Segment) (old new : SeatView) → SeatGoesOn t old (map plain_walk segments) new → HasGone old (entries segments) new
-  has-gone_on [] old new g = record { reads = ap (λ (s : SeatView). s.read) g ∙ sym (append-nil old.read); offers = ap (λ (s : SeatView). s.offered) g ∙ sym (append-nil old.offered) }
-  has-gone_on (s ∷ ss) old new g =
-      let a = has-gone old (entries_in s) g.0 g.1 in
-      let r = has-gone_on ss g.0 new g.2 in
+  pub has-gone_on : (gap : ℕ) (segments : List Segment) (old new : SeatView) → SeatGoesOn t old (map (gap_walk gap) segments) new → HasGone old (entries segments) new
+  has-gone_on gap [] old new g = record { reads = ap (λ (s : SeatView). s.read) g ∙ sym (append-nil old.read); offers = ap (λ (s : SeatView). s.offered) g ∙ sym (append-nil old.offered) }
+  has-gone_on gap (s ∷ ss) old new g =
+      let a = has-gone gap old (entries_in s) g.0 g.1 in
+      let r = has-gone_on gap ss g.0 new g.2 in
       record {
         reads = r.reads ∙ (ap (λ l. l ++ held_values (judgements (entries ss))) a.reads ∙ (append_assoc old.read (held_values (judgements (entries_in s))) (held_values (judgements (entries ss)))
             ∙ ap (λ l. old.read ++ l) (sym (held-append (judgements (entries_in s)) (judgements (entries ss))) ∙ ap held_values (sym (flat_map-append judgement_in (entries_in s) (entries ss))))));

@@ -47,10 +47,10 @@ module _ {N S R : Type 0} where
   seats-share (s ∷ ss) =
       let a = sum_by-cons (λ (m : MailSeatView (Task N) (Members N)). m.share) s.mail (seats_of ss) in let b = sum_by-cons (λ (x : Station N S R). x.mail.share) s ss in let r = seats-share ss in omega arith
 
-module _ {N S R : Type 0} (t : SearchTree N) (join : S → S → S) (none : S) (of : N → ℕ → S) (seen : R → LogView) (coord : Coord) (fits : S → Type 0) (shared : Shared N) (workers : ℕ)
-    (reports : List (Report N S R)) (w : HasWorked (searched t join none of seen coord 0) fits (members_of t) workers shared reports) where
+module _ {N S R : Type 0} (t : SearchTree N) (join : S → S → S) (none : S) (of : N → ℕ → S) (seen : R → LogView) (coord : Coord) (gap : ℕ) (fits : S → Type 0) (shared : Shared N) (workers : ℕ)
+    (reports : List (Report N S R)) (w : HasWorked (searched t join none of seen coord gap) fits (members_of t) workers shared reports) where
   pub all-seated : AllByRecursion (λ (r : Report N S R). IsSeated shared.best shared.tasks r.station) reports
-  all-seated = reports-after t join none of seen coord shared (IsSeated shared.best shared.tasks)
+  all-seated = reports-after t join none of seen coord gap shared (IsSeated shared.best shared.tasks)
       (λ place made put b a is same. record {
         of_best = same.best ∙ ap (λ (v : SeatView). v.best) is.best_is;
         of_tasks = same.tasks ∙ ap (λ (v : OpenSeatView). v.tasks) is.tasks_is;
@@ -60,27 +60,28 @@ module _ {N S R : Type 0} (t : SearchTree N) (join : S → S → S) (none : S) (
   pub some-reports : 0 < length reports
   some-reports = by reports w
     where
-      by : (rs : List (Report N S R)) → HasWorked (searched t join none of seen coord 0) fits (members_of t) workers shared rs → 0 < length rs
-      by [] v = absurd (subst (λ (l : List (Station N S R)). AreReports (searched t join none of seen coord 0) l []) v.crew.stands v.are_reports)
+      by : (rs : List (Report N S R)) → HasWorked (searched t join none of seen coord gap) fits (members_of t) workers shared rs → 0 < length rs
+      by [] v = absurd (subst (λ (l : List (Station N S R)). AreReports (searched t join none of seen coord gap) l []) v.crew.stands v.are_reports)
       by (r ∷ rs) v = omega arith
 
   pub all-passes : All (λ (p : PassView (Task N) (Members N)). p.pool ≡ shared.pool) (passes_of (stations_of reports))
   all-passes = All-from_recursion (λ (p : PassView (Task N) (Members N)). p.pool ≡ shared.pool) (passes_of (stations_of reports))
       (AllByRecursion-map (λ (p : PassView (Task N) (Members N)). p.pool ≡ shared.pool) (λ (x : Station N S R). x.pool) (stations_of reports)
-      (all-after t join none of seen coord shared (λ x. x.pool.pool ≡ shared.pool) (λ place made put b a is same. same.pool ∙ ap (λ (p : PassView (Task N) (Members N)). p.pool) is.pool_is) workers w.begun reports w.crew w.are_reports))
+      (all-after t join none of seen coord gap shared (λ x. x.pool.pool ≡ shared.pool) (λ place made put b a is same. same.pool ∙ ap (λ (p : PassView (Task N) (Members N)). p.pool) is.pool_is) workers w.begun reports w.crew w.are_reports))
 
   pub whole-passes : sum_by (λ (p : PassView (Task N) (Members N)). p.share) (passes_of (stations_of reports)) ≡ length shared.pool.deques
   whole-passes = passes-share (stations_of reports)
-      ∙ (shares-after t join none of seen coord shared (λ x. x.pool.share) (λ place made put b a is same. same.pass_share ∙ ap (λ (p : PassView (Task N) (Members N)). p.share) is.pool_is) workers w.begun reports w.crew w.are_reports
+      ∙ (shares-after t join none of seen coord gap shared (λ x. x.pool.share) (λ place made put b a is same. same.pass_share ∙ ap (λ (p : PassView (Task N) (Members N)). p.share) is.pool_is) workers w.begun reports w.crew w.are_reports
       ∙ sym w.crew.deques)
 
   pub all-seats : AllByRecursion (λ (m : MailSeatView (Task N) (Members N)). m.mail ≡ shared.mail) (seats_of (stations_of reports))
   all-seats = AllByRecursion-map (λ (m : MailSeatView (Task N) (Members N)). m.mail ≡ shared.mail) (λ (x : Station N S R). x.mail) (stations_of reports)
-      (all-after t join none of seen coord shared (λ x. x.mail.mail ≡ shared.mail) (λ place made put b a is same. same.mail ∙ ap (λ (m : MailSeatView (Task N) (Members N)). m.mail) is.mail_is) workers w.begun reports w.crew w.are_reports)
+      (all-after t join none of seen coord gap shared (λ x. x.mail.mail ≡ shared.mail)
+      (λ place made put b a is same. same.mail ∙ ap (λ (m : MailSeatView (Task N) (Members N)). m.mail) is.mail_is) workers w.begun reports w.crew w.are_reports)
 
   pub whole-seats : sum_by (λ (m : MailSeatView (Task N) (Members N)). m.share) (seats_of (stations_of reports)) ≡ shared.mail.workers
   whole-seats = seats-share (stations_of reports)
-      ∙ (shares-after t join none of seen coord shared (λ x. x.mail.share) (λ place made put b a is same. same.mail_share ∙ ap (λ (m : MailSeatView (Task N) (Members N)). m.share) is.mail_is) workers w.begun reports w.crew w.are_reports
+      ∙ (shares-after t join none of seen coord gap shared (λ x. x.mail.share) (λ place made put b a is same. same.mail_share ∙ ap (λ (m : MailSeatView (Task N) (Members N)). m.share) is.mail_is) workers w.begun reports w.crew w.are_reports
       ∙ sym w.crew.mailboxes)
 
   module _ (first : Report N S R) (rest : List (Report N S R)) (stands : reports ≡ first ∷ rest) where
@@ -88,13 +89,13 @@ module _ {N S R : Type 0} (t : SearchTree N) (join : S → S → S) (none : S) (
     pub whole-tasks : (tasks_with first.station.tasks (stations_of rest)).share ≡ shared.tasks.seats
     whole-tasks =
         let a = tasks-share (stations_of rest) first.station.tasks in
-        let b = shares-after t join none of seen coord shared (λ x. x.tasks.share) (λ place made put b a is same. same.tasks_share ∙ ap (λ (v : OpenSeatView). v.share) is.tasks_is) workers w.begun reports w.crew w.are_reports in
+        let b = shares-after t join none of seen coord gap shared (λ x. x.tasks.share) (λ place made put b a is same. same.tasks_share ∙ ap (λ (v : OpenSeatView). v.share) is.tasks_is) workers w.begun reports w.crew w.are_reports in
         let c = ap (λ (l : List (Report N S R)). sum_by (λ (x : Station N S R). x.tasks.share) (stations_of l)) stands in
         let d = sum_by-cons (λ (x : Station N S R). x.tasks.share) first.station (stations_of rest) in let e = w.crew.open_seats in omega arith
 
     pub whole-best : (best_with first.station.best (stations_of rest)).share ≡ shared.best.seats
     whole-best =
         let a = best-share (stations_of rest) first.station.best in
-        let b = shares-after t join none of seen coord shared (λ x. x.best.share) (λ place made put b a is same. same.best_share ∙ ap (λ (v : SeatView). v.share) is.best_is) workers w.begun reports w.crew w.are_reports in
+        let b = shares-after t join none of seen coord gap shared (λ x. x.best.share) (λ place made put b a is same. same.best_share ∙ ap (λ (v : SeatView). v.share) is.best_is) workers w.begun reports w.crew w.are_reports in
         let c = ap (λ (l : List (Report N S R)). sum_by (λ (x : Station N S R). x.best.share) (stations_of l)) stands in
         let d = sum_by-cons (λ (x : Station N S R). x.best.share) first.station (stations_of rest) in let e = w.crew.best_seats in omega arith

@@ -20,7 +20,7 @@ use Rattle.yew_mail.specs.Seats.{SeatView as MailSeatView}
 use Rattle.yew_pool.specs.Passes.{PassView}
 use Rattle.yew_stack.specs.Splits.{paths_of}
 use Rattle.yew_walk.specs.declared.hand.Hand.{Hand}
-use Rattle.yew_walk.specs.declared.keying.Keying.TheVariants.{Plain}
+use Rattle.yew_walk.specs.declared.keying.Keying.TheVariants.{Gap}
 use Rattle.yew_walk.specs.LogViews.{LogView}
 use Rattle.yew_walk.specs.Outlets.{OutletCall}
 use Rattle.yew_walk.specs.Scenes.{IsWalked, scene}
@@ -52,19 +52,19 @@ paths-append (x ∷ xs) ys = ap (λ l. x.path.numbers ∷ l) (paths-append xs ys
 pub paths-grow : {N : Type 0} (before after tasks : List (Task N)) (ps : List (List ℕ)) → SameBag after (before ++ tasks) → SameBag (paths_of tasks) ps → SameBag (paths_of after) (paths_of before ++ ps)
 paths-grow before after tasks ps a b = same-trans (same-map (λ task. task.path.numbers) a) (same-trans (same-is (paths-append before tasks)) (same-append (same-refl (paths_of before)) b))
 
-module _ {P N K S R Q : Type 0} (meaning : Ghosts P N K) (problem : P) (join : S → S → S) (none : S) (of : N → ℕ → S) (seen : R → LogView) (coord : Coord) (policy : PolicyMeaning Q) where
+module _ {P N K S R Q : Type 0} (meaning : Ghosts P N K) (problem : P) (join : S → S → S) (none : S) (of : N → ℕ → S) (seen : R → LogView) (coord : Coord) (gap : ℕ) (policy : PolicyMeaning Q) where
   -- the walk, the tasks that it sent to the pool, and the one that it ended
   pub spawn-step : (task : List ℕ) (made : List OutletCall → Type 0) (number : ℕ) (mail : MailSeatView (Task N) (Members N)) (b0 b1 : SeatView) (h0 h1 : Hand S) (q0 q1 : Q) (o0 mid o1 : SpawningView P N) (answers0 answers1 : Option (List Bool)) (l0 l1 : R)
       → IsRanked (meaning.sound problem) (meaning.children problem) (meaning.rank problem) → meaning.sound problem (meaning.root problem) → IsSome (at_path (search_tree meaning problem) task)
       → Spawns coord
       → ((answers : List Bool) (body : List Note) → HasPolicy (search_tree meaning problem) policy q0 answers body → HasGroups (SkeletonGroup (search_tree meaning problem) (skeleton_of coord)) body)
       → ((x : Segment) → IsSegment (search_tree meaning problem) x → HasGroups (SkeletonGroup (search_tree meaning problem) (skeleton_of coord)) x.body → sent_paths x.body ≡ spawned_paths x.body)
-      → IsWalked meaning problem Plain join of policy task none made (scene b0 h0 q0 o0.pass.put answers0 (seen l0)) (scene b1 h1 q1 mid.pass.put answers1 (seen l1))
+      → IsWalked meaning problem (Gap gap) join of policy task none made (scene b0 h0 q0 o0.pass.put answers0 (seen l0)) (scene b1 h1 q1 mid.pass.put answers1 (seen l1))
       → KeepsSpawning o0 mid → IsLaterSpawning o0 mid → o1 ≡ record mid { tasks = record mid.tasks { ended = mid.tasks.ended + 1 } }
       → b1.best ≡ b0.best → b1.share ≡ b0.share → 65535 ≤ h1.path.space
-      → IsStep (searched (search_tree meaning problem) join none of seen coord 0) task (station number b0 o0.pass mail o0.tasks h0 l0) (station number b1 o1.pass mail o1.tasks h1 l1)
+      → IsStep (searched (search_tree meaning problem) join none of seen coord gap) task (station number b0 o0.pass mail o0.tasks h0 l0) (station number b1 o1.pass mail o1.tasks h1 l1)
   spawn-step task made number mail b0 b1 h0 h1 q0 q1 o0 mid o1 answers0 answers1 l0 l1 ranked root there spawns groups sends walked kept later ended seat_is share_is room =
-      let s = searched (search_tree meaning problem) join none of seen coord 0 in
+      let s = searched (search_tree meaning problem) join none of seen coord gap in
       let w = walk-parts meaning problem s policy task made (scene b0 h0 q0 o0.pass.put answers0 (seen l0)) (scene b1 h1 q1 mid.pass.put answers1 (seen l1)) walked in
       let has = groups w.answers w.body w.policy_groups in
       let all_spawned = sends (segment task w.body) w.is_segment has in

@@ -187,41 +187,41 @@ module _ {P N S R : Type 0} (s : Searched S R N) where
         looks = quiet-looks s.tree s.coord w.segments first.mail.found thief.outlet.seat.found outlet.seat.found i.entries (ap (λ (m : Mails). m.found) i.seat) i.quiet w.looks;
       }
 
-module _ {P N S R : Type 0} (t : SearchTree N) (join : S → S → S) (none : S) (of : N → ℕ → S) (seen : R → LogView) (coord : Coord) where
+module _ {P N S R : Type 0} (t : SearchTree N) (join : S → S → S) (none : S) (of : N → ℕ → S) (seen : R → LogView) (coord : Coord) (gap : ℕ) where
   -- a worker that has come to its end with nothing to walk
   pub work-over : (end : End) (first : Station N S R) (thief : Thief (HandingView P N) N S R) (outlet : HandingView P N) → IsIdleStep [] thief.outlet outlet → IsOver thief.outlet.tasks outlet.tasks end
-      → IsWorking (searched t join none of seen coord 0) [] first (thief_station thief)
-      → IsRound (searched t join none of seen coord 0) [] first (thief_station (record thief { outlet = outlet })) (Ended end)
+      → IsWorking (searched t join none of seen coord gap) [] first (thief_station thief)
+      → IsRound (searched t join none of seen coord gap) [] first (thief_station (record thief { outlet = outlet })) (Ended end)
   work-over Done first thief outlet i over w =
-      let s : Searched S R N = searched t join none of seen coord 0 in
+      let s : Searched S R N = searched t join none of seen coord gap in
       let now = work-idle s [] [] first thief outlet i w in (
         now.same,
-        work-done t join none of seen coord first (thief_station (record thief { outlet = outlet })) now over.0 (λ k. over.1 (w.knows k))
+        work-done t join none of seen coord gap first (thief_station (record thief { outlet = outlet })) now over.0 (λ k. over.1 (w.knows k))
             (λ whole. over.2 (w.same.tasks_share ∙ (whole ∙ sym (ap (λ (x : OpenId). x.seats) w.same.tasks)))),
       )
   work-over Stopped first thief outlet i over w =
-      let s : Searched S R N = searched t join none of seen coord 0 in
+      let s : Searched S R N = searched t join none of seen coord gap in
       let now = work-idle s [] [] first thief outlet i w in
-      (now.same, work-stopped t join none of seen coord [] first (thief_station (record thief { outlet = outlet })) now over)
+      (now.same, work-stopped t join none of seen coord gap [] first (thief_station (record thief { outlet = outlet })) now over)
   work-over (Fault fault) first thief outlet i over w = absurd over
 
   -- a worker that saw that all are told to stop, whatever it had to walk
   pub work-told : (rest : List (List ℕ)) (first : Station N S R) (thief : Thief (HandingView P N) N S R) (outlet : HandingView P N) → IsIdleStep [] thief.outlet outlet → outlet.tasks.saw ≡ true
-      → IsWorking (searched t join none of seen coord 0) rest first (thief_station thief)
-      → IsRound (searched t join none of seen coord 0) rest first (thief_station (record thief { outlet = outlet })) (Ended Stopped)
+      → IsWorking (searched t join none of seen coord gap) rest first (thief_station thief)
+      → IsRound (searched t join none of seen coord gap) rest first (thief_station (record thief { outlet = outlet })) (Ended Stopped)
   work-told rest first thief outlet i saw w =
-      let s : Searched S R N = searched t join none of seen coord 0 in
+      let s : Searched S R N = searched t join none of seen coord gap in
       let now = work-idle s [] rest first thief outlet i w in
-      (now.same, work-stopped t join none of seen coord rest first (thief_station (record thief { outlet = outlet })) now saw)
+      (now.same, work-stopped t join none of seen coord gap rest first (thief_station (record thief { outlet = outlet })) now saw)
 
   -- a worker whose walk was refused, and which told all to stop
   pub work-faulty : (rest : List (List ℕ)) (path : List ℕ) (fault : SearchFault) (first : Station N S R) (before after : Thief (HandingView P N) N S R) (outlet : HandingView P N)
       → outlet ≡ record after.outlet { tasks = record after.outlet.tasks { stops = after.outlet.tasks.stops + 1 } }
-      → IsWorking (searched t join none of seen coord 0) (path ∷ rest) first (thief_station before)
-      → IsBrokenStep (searched t join none of seen coord 0) path fault (thief_station before) (thief_station after)
-      → IsRound (searched t join none of seen coord 0) rest first (thief_station (record after { outlet = outlet })) (Ended (Fault fault))
+      → IsWorking (searched t join none of seen coord gap) (path ∷ rest) first (thief_station before)
+      → IsBrokenStep (searched t join none of seen coord gap) path fault (thief_station before) (thief_station after)
+      → IsRound (searched t join none of seen coord gap) rest first (thief_station (record after { outlet = outlet })) (Ended (Fault fault))
   work-faulty rest path fault first before after outlet is w b =
-      let s : Searched S R N = searched t join none of seen coord 0 in
+      let s : Searched S R N = searched t join none of seen coord gap in
       let same = same-twice first (thief_station before) (thief_station after) w.same b.same in
       subst (λ (o : HandingView P N). IsRound s rest first (thief_station (record after { outlet = o })) (Ended (Fault fault))) (sym is) (
         record {
@@ -239,13 +239,11 @@ module _ {P N S R : Type 0} (t : SearchTree N) (join : S → S → S) (none : S)
           tasks = same.tasks;
           tasks_share = same.tasks_share;
         },
-        work-broken t join none of seen coord path fault first (thief_station before) (thief_station after) (record after.outlet.tasks { stops = after.outlet.tasks.stops + 1 }) w b refl,
+        work-broken t join none of seen coord gap path fault first (thief_station before) (thief_station after) (record after.outlet.tasks { stops = after.outlet.tasks.stops + 1 }) w b refl,
       )
 
-module _ {N S R : Type 0} (t : SearchTree N) (join : S → S → S) (none : S) (of : N → ℕ → S) (seen : R → LogView) (coord : Coord) where
-  -- the report of a worker that has come to its end, where the gap is 0
-  pub end-reported : (gap : ℕ) → gap ≡ 0 → (first now : Station N S R) (end : End) (report : Report N S R) → report ≡ record { station = now; end = end }
-      → IsSameStation first now → IsEnd (searched t join none of seen coord 0) first now end → IsReport (searched t join none of seen coord gap) first report
-  end-reported gap zero first now end report is same ends =
-      subst (IsReport (searched t join none of seen coord gap) first) (sym is)
-      (subst (λ (g : ℕ). IsReport (searched t join none of seen coord g) first (record { station = now; end = end })) (sym zero) (record { same = same; ends = ends }))
+module _ {N S R : Type 0} (t : SearchTree N) (join : S → S → S) (none : S) (of : N → ℕ → S) (seen : R → LogView) (coord : Coord) (gap : ℕ) where
+  -- the report of a worker that has come to its end
+  pub end-reported : (first now : Station N S R) (end : End) (report : Report N S R) → report ≡ record { station = now; end = end }
+      → IsSameStation first now → IsEnd (searched t join none of seen coord gap) first now end → IsReport (searched t join none of seen coord gap) first report
+  end-reported first now end report is same ends = subst (IsReport (searched t join none of seen coord gap) first) (sym is) (record { same = same; ends = ends })

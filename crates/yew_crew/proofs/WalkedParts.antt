@@ -14,12 +14,13 @@ use Rattle.yew_log.specs.Notes.{Note, taken, visited, cut, spawned, handed, ende
 use Rattle.yew_log.specs.Policies.{PolicyMeaning, HasPolicy}
 use Rattle.yew_log.specs.Segment.{segment, IsSegment}
 use Rattle.yew_stack.specs.Splits.{paths_of}
-use Rattle.yew_walk.specs.declared.keying.Keying.TheVariants.{Plain}
+use Rattle.yew_walk.specs.declared.keying.Keying.TheVariants.{Plain, Gap}
 use Rattle.yew_walk.specs.Hands.{incumbent_of, best_after, AreVisited}
 use Rattle.yew_walk.specs.LogViews.{log_after}
 use Rattle.yew_walk.specs.Outlets.{OutletCall}
 use Rattle.yew_walk.specs.Scenes.{Scene, IsWalked}
 use Rattle.yew_walk.specs.Seats.{SeatGoes}
+use Rattle.yew_walk.proofs.BestVisits.{best_after-plain}
 use Rattle.yew_crew.specs.Stations.{Searched}
 
 pub ones : {X : Type 0} (xs : List X) → sum_by (λ _. 1) xs ≡ length xs
@@ -49,8 +50,8 @@ module _ {S N K Sum Q R : Type 0} (meaning : Ghosts S N K) (problem : S) (s : Se
     pub policy_groups : HasPolicy (search_tree meaning problem) policy first.state answers body
     pub is_segment : IsSegment (search_tree meaning problem) (segment task body)
     pub rises : HeldRises (taken task ∷ body)
-    pub judged : IsJudged (search_tree meaning problem) 0 plain (taken task ∷ body)
-    pub goes : SeatGoes (search_tree meaning problem) Plain first.seat (taken task ∷ body) now.seat
+    pub judged : IsJudged (search_tree meaning problem) s.gap plain (taken task ∷ body)
+    pub goes : SeatGoes (search_tree meaning problem) (Gap s.gap) first.seat (taken task ∷ body) now.seat
     pub log_is : now.log ≡ log_after first.log (taken task ∷ body)
     pub are_visited : AreVisited (search_tree meaning problem) body members
     pub sum_is : now.hand.sum ≡ s.join first.hand.sum (fold_of s.join s.none (of_member s.of) members)
@@ -60,7 +61,7 @@ module _ {S N K Sum Q R : Type 0} (meaning : Ghosts S N K) (problem : S) (s : Se
     pub sound : AllByRecursion (λ task'. IsTask meaning problem task'.path.numbers task'.node) tasks
     pub answers_are : now.answers ≡ option_map (λ given. given ++ answers) first.answers
 
-  pub walk-parts : (task : List ℕ) (made : List OutletCall → Type 0) (first now : Scene N Sum Q) → IsWalked meaning problem Plain s.join s.of policy task s.none made first now → WalkParts task first now
+  pub walk-parts : (task : List ℕ) (made : List OutletCall → Type 0) (first now : Scene N Sum Q) → IsWalked meaning problem (Gap s.gap) s.join s.of policy task s.none made first now → WalkParts task first now
   walk-parts task made first now w =
       let t = search_tree meaning problem in
       let body = w.walk.body in
@@ -74,12 +75,12 @@ module _ {S N K Sum Q R : Type 0} (meaning : Ghosts S N K) (problem : S) (s : Se
         policy_groups = record { one_each = w.one_each ∙ ap (λ notes. length (event_paths notes)) notes_are; groups = w.walk.keeps.groups.0 };
         is_segment = w.walk.keeps.each.0;
         rises = subst HeldRises (append-nil (taken task ∷ body)) w.walk.keeps.held_rises;
-        judged = subst (IsJudged t 0 plain) (append-nil (taken task ∷ body)) w.walk.keeps.due;
-        goes = subst (λ notes. SeatGoes t Plain first.seat notes now.seat) notes_are w.goes;
+        judged = subst (IsJudged t s.gap plain) (append-nil (taken task ∷ body)) w.walk.keeps.due;
+        goes = subst (λ notes. SeatGoes t (Gap s.gap) first.seat notes now.seat) notes_are w.goes;
         log_is = w.log_is ∙ ap (log_after first.log) notes_are;
         are_visited = record { paths_are = seen.paths_are; there = seen.there };
         sum_is = w.sum_is;
-        best_is = w.best_is ∙ ap (λ notes. best_after Plain (incumbent_of first.hand) (visits notes)) notes_are;
+        best_is = w.best_is ∙ (best_after-plain (Gap s.gap) (incumbent_of first.hand) (visits w.notes) refl ∙ ap (λ notes. best_after Plain (incumbent_of first.hand) (visits notes)) notes_are);
         sent_are = w.sent_are;
         tasks_are = subst (λ notes. SameBag (paths_of w.tasks) (sent_paths notes)) notes_are w.tasks_are;
         sound = w.sound;

@@ -15,19 +15,21 @@ use Rattle.yew_log.specs.WholeSearch.{IsBestVisit, joined}
 use Rattle.yew_walk.specs.Hands.{incumbent_of, numbers_of}
 use Rattle.yew_walk.specs.PlainSearch.{NeverCuts}
 use Rattle.yew_walk.specs.declared.hand.Hand.{Hand}
-use Rattle.yew_crew.specs.CrewSearch.{IsNear, HasCrewLogs}
+use Rattle.yew_walk.specs.Answers.{IsNear}
+use Rattle.yew_crew.specs.CrewSearch.{HasCrewLogs}
 use Rattle.yew_crew.specs.Gathering.{IsGathered}
 use Rattle.yew_crew.specs.Groups.{Group, taken, together, all_together, IsBalanced, IsClosed}
 use Rattle.yew_crew.specs.Crews.{AreWorked}
 use Rattle.yew_crew.specs.Reports.{IsDone, IsAlone}
 use Rattle.yew_crew.specs.Stations.{Searched, skeleton_of}
 use Rattle.yew_crew.specs.declared.station.Station.{Station}
-use Rattle.yew_crew.proofs.BestFinds.{nothing, IsNamedBy, IsBestOf}
+use Rattle.yew_walk.proofs.NearAnswers.{best-near}
+use Rattle.yew_walk.proofs.BestFinds.{nothing, IsNamedBy, IsBestOf}
 use Rattle.yew_crew.proofs.CrewClosed.{closed-all, left-below}
 use Rattle.yew_crew.proofs.Finished.{Finish, AreFinished, all_of, notes_of, finished_hands, joined-visits, logs-kept, logs-whole, sums-whole, gathered-best}
 use Rattle.yew_crew.proofs.GroupLaws.{idle-balanced, balanced-together, group-covers, group-attained}
 use Rattle.yew_crew.proofs.RestEnds.{IsRestWork, IsNew, AreDone, finishes, first-finished, others-finished}
-use Rattle.yew_crew.proofs.WholeAnswers.{best-near, sum-whole}
+use Rattle.yew_crew.proofs.WholeAnswers.{sum-whole}
 
 -- the node that an incumbent names is one of the best visits
 pub names-best : {N : Type 0} (t : SearchTree N) (notes : List Note) (vs : List Judgement) (found : Incumbent) (path : Option PathValue)

@@ -15,32 +15,37 @@ use Rattle.yew_log.specs.Lawful.{tasks_of}
 use Rattle.yew_log.specs.Notes.{Note, taken, visited, cut, spawned, handed, ended, Judgement, paths, values, held_values, visits, cuts, judgements, visit_in, cut_in, sent_paths}
 use Rattle.yew_log.specs.Segment.{Segment, entries, entries_in, IsSegment, IsBroken}
 use Rattle.yew_walk.specs.LogViews.{LogView}
+use Rattle.yew_walk.specs.Keys.{gap_in}
 use Rattle.yew_walk.specs.WorkerLogs.{KeyedSegment, segments_of, KeysRise, ComesFirst}
 use Rattle.yew_walk.proofs.WorkerLogs.{walks-rise, walks-judged, walks-exact}
 use Rattle.yew_crew.specs.Groups.{Group}
 use Rattle.yew_crew.specs.Reports.{IsGroupWork, AreSegments, IsDone}
 use Rattle.yew_crew.specs.Stations.{Searched, searched}
-use Rattle.yew_crew.specs.Working.{plain_walk, IsWalkSegment, IsWorking}
+use Rattle.yew_crew.specs.Working.{gap_walk, IsWalkSegment, IsWorking}
 use Rattle.yew_crew.specs.declared.coord.Coord.{Coord}
 use Rattle.yew_crew.specs.declared.station.Station.{Station}
 use Rattle.yew_crew.proofs.SegmentSums.{weigh-segments, judged-segments, all-segments, has-gone_on}
 use Rattle.yew_crew.proofs.WalkedParts.{sent-dealt, same-length}
 
-pub plain-segments : (segments : List Segment) → segments_of (map plain_walk segments) ≡ segments
-plain-segments [] = refl
-plain-segments (s ∷ ss) = ap (λ l. s ∷ l) (plain-segments ss)
+pub gap-segments : (gap : ℕ) (segments : List Segment) → segments_of (map (gap_walk gap) segments) ≡ segments
+gap-segments gap [] = refl
+gap-segments gap (s ∷ ss) = ap (λ l. s ∷ l) (gap-segments gap ss)
 
-plain-first : (segments : List Segment) (w : Segment) → AllByRecursion (λ (x : KeyedSegment). ComesFirst (plain_walk w).keying x.keying) (map plain_walk segments)
-plain-first [] w = tt
-plain-first (s ∷ ss) w = (tt, plain-first ss w)
+gap-first : (gap : ℕ) (segments : List Segment) (w : Segment) → AllByRecursion (λ (x : KeyedSegment). ComesFirst (gap_walk gap w).keying x.keying) (map (gap_walk gap) segments)
+gap-first gap [] w = tt
+gap-first gap (s ∷ ss) w = (refl, gap-first gap ss w)
 
-pub plain-rise : (segments : List Segment) → KeysRise (map plain_walk segments)
-plain-rise [] = tt
-plain-rise (s ∷ ss) = (plain-first ss s, plain-rise ss)
+pub gap-rise : (gap : ℕ) (segments : List Segment) → KeysRise (map (gap_walk gap) segments)
+gap-rise gap [] = tt
+gap-rise gap (s ∷ ss) = (gap-first gap ss s, gap-rise gap ss)
 
-pub all-plain : (Q : Segment → Type 0) (segments : List Segment) → AllByRecursion Q segments → AllByRecursion (λ (x : KeyedSegment). Q x.segment) (map plain_walk segments)
-all-plain Q [] a = tt
-all-plain Q (s ∷ ss) a = (a.0, all-plain Q ss a.1)
+pub gap-each : (gap : ℕ) (segments : List Segment) → AllByRecursion (λ (x : KeyedSegment). gap_in x.keying ≡ gap) (map (gap_walk gap) segments)
+gap-each gap [] = tt
+gap-each gap (s ∷ ss) = (refl, gap-each gap ss)
+
+pub all-gap : (gap : ℕ) (Q : Segment → Type 0) (segments : List Segment) → AllByRecursion Q segments → AllByRecursion (λ (x : KeyedSegment). Q x.segment) (map (gap_walk gap) segments)
+all-gap gap Q [] a = tt
+all-gap gap Q (s ∷ ss) a = (a.0, all-gap gap Q ss a.1)
 
 -- the held values of the entries, in order, are as a bag those of the visits and of the cuts
 pub held-dealt : (weight : ℕ → ℕ) (notes : List Note) → sum_by weight (held_values (judgements notes)) ≡ sum_by weight (held_values (visits notes ++ cuts notes))
@@ -69,9 +74,9 @@ held-dealt weight (ended p ∷ notes) = held-dealt weight notes
 pub each-segment : {S R N : Type 0} (s : Searched S R N) (segments : List Segment) → AllByRecursion (IsWalkSegment s) segments → AllByRecursion (IsSegment s.tree) segments
 each-segment s segments a = AllByRecursion-weaker (IsWalkSegment s) (IsSegment s.tree) (λ x p. p.is_segment) segments a
 
-module _ {N S R : Type 0} (t : SearchTree N) (join : S → S → S) (none : S) (of : N → ℕ → S) (seen : R → LogView) (coord : Coord) where
+module _ {N S R : Type 0} (t : SearchTree N) (join : S → S → S) (none : S) (of : N → ℕ → S) (seen : R → LogView) (coord : Coord) (gap : ℕ) where
   -- the group of a worker that has nothing left to walk
-  abbrev pub group-of : (first now : Station N S R) → IsWorking (searched t join none of seen coord 0) [] first now → Group N S
+  abbrev pub group-of : (first now : Station N S R) → IsWorking (searched t join none of seen coord gap) [] first now → Group N S
   group-of first now w = record {
     took = w.took;
     got = w.got;
@@ -87,12 +92,12 @@ module _ {N S R : Type 0} (t : SearchTree N) (join : S → S → S) (none : S) (
     sum = fold_of join none (of_member of) w.members;
   }
 
-  pub work-group : (first now : Station N S R) → IsWorking (searched t join none of seen coord 0) [] first now → IsGroupWork (searched t join none of seen coord 0) first now
+  pub work-group : (first now : Station N S R) → IsWorking (searched t join none of seen coord gap) [] first now → IsGroupWork (searched t join none of seen coord gap) first now
   work-group first now w =
-      let s : Searched S R N = searched t join none of seen coord 0 in
+      let s : Searched S R N = searched t join none of seen coord gap in
       let notes = entries w.segments in
       let are = each-segment s w.segments w.walks in
-      let gone = has-gone_on t w.segments first.best now.best w.goes in
+      let gone = has-gone_on t gap w.segments first.best now.best w.goes in
       let all_taken : SameBag (w.took ++ w.got) (tasks_of w.segments) = same-trans w.taken_are (same-is (append-nil (tasks_of w.segments))) in
       let sent_are : SameBag (w.put ++ w.given) (sent_paths notes) = record {
         weighs = λ h. (
@@ -139,21 +144,21 @@ module _ {N S R : Type 0} (t : SearchTree N) (join : S → S → S) (none : S) (
       count (x ∷ xs) = let r = count xs in omega arith
 
   -- and its segments are those of its log
-  pub work-segments : (first now : Station N S R) → (w : IsWorking (searched t join none of seen coord 0) [] first now) → AreSegments (searched t join none of seen coord 0) (group-of first now w) first now
+  pub work-segments : (first now : Station N S R) → (w : IsWorking (searched t join none of seen coord gap) [] first now) → AreSegments (searched t join none of seen coord gap) (group-of first now w) first now
   work-segments first now w =
-      let s : Searched S R N = searched t join none of seen coord 0 in
+      let s : Searched S R N = searched t join none of seen coord gap in
       let are = each-segment s w.segments w.walks in
-      let is = plain-segments w.segments in
-      let keys = plain-rise w.segments in
+      let is = gap-segments gap w.segments in
+      let keys = gap-rise gap w.segments in
       record {
         segments = w.segments;
         walks = record {
           each = are;
           groups = AllByRecursion-weaker (IsWalkSegment s) _ (λ x p. p.groups) w.segments w.walks;
-          held_rises = subst (λ l. HeldRises (entries l)) is (walks-rise t (map plain_walk w.segments) first.best now.best w.goes keys
-              (all-plain (λ x. HeldRises (entries_in x)) w.segments (AllByRecursion-weaker (IsWalkSegment s) _ (λ x p. p.rises) w.segments w.walks)));
-          due = subst (λ l. IsJudged t 0 plain (entries l)) is (walks-judged t plain (map plain_walk w.segments) first.best now.best w.goes keys
-              (all-plain (λ x. IsJudged t 0 plain (entries_in x)) w.segments (AllByRecursion-weaker (IsWalkSegment s) _ (λ x p. p.judged) w.segments w.walks)));
+          held_rises = subst (λ l. HeldRises (entries l)) is (walks-rise t (map (gap_walk gap) w.segments) first.best now.best w.goes keys
+              (all-gap gap (λ x. HeldRises (entries_in x)) w.segments (AllByRecursion-weaker (IsWalkSegment s) _ (λ x p. p.rises) w.segments w.walks)));
+          due = subst (λ l. IsJudged t gap plain (entries l)) is (walks-judged t gap plain (map (gap_walk gap) w.segments) first.best now.best (gap-each gap w.segments) w.goes keys
+              (all-gap gap (λ x. IsJudged t gap plain (entries_in x)) w.segments (AllByRecursion-weaker (IsWalkSegment s) _ (λ x p. p.judged) w.segments w.walks)));
         };
         broken = AllByRecursion-weaker (IsWalkSegment s) (IsBroken t) (λ x p. p.is_broken) w.segments w.walks;
         visits_are = refl;
@@ -162,12 +167,12 @@ module _ {N S R : Type 0} (t : SearchTree N) (join : S → S → S) (none : S) (
         spawned_are = w.spawned_are;
         handed_are = w.handed_are;
         log_is = w.log_is;
-        alone = λ a. subst (λ l. HeldIsMaximum (entries l)) is (walks-exact t (map plain_walk w.segments) first.best now.best w.goes keys a.none_offered a.whole);
+        alone = λ a. subst (λ l. HeldIsMaximum (entries l)) is (walks-exact t (map (gap_walk gap) w.segments) first.best now.best w.goes keys a.none_offered a.whole);
         looks = w.looks;
       }
 
-  pub work-done : (first now : Station N S R) → IsWorking (searched t join none of seen coord 0) [] first now → now.tasks.last ≡ Some 0 → (first.tasks.knows ≡ true → now.tasks.knew ≡ true)
-      → (first.tasks.share ≡ first.tasks.tasks.seats → now.tasks.made % 2 ^ 64 ≡ now.tasks.ended % 2 ^ 64) → IsDone (searched t join none of seen coord 0) first now
+  pub work-done : (first now : Station N S R) → IsWorking (searched t join none of seen coord gap) [] first now → now.tasks.last ≡ Some 0 → (first.tasks.knows ≡ true → now.tasks.knew ≡ true)
+      → (first.tasks.share ≡ first.tasks.tasks.seats → now.tasks.made % 2 ^ 64 ≡ now.tasks.ended % 2 ^ 64) → IsDone (searched t join none of seen coord gap) first now
   unfolding work-group
   work-done first now w last knew counted = record {
     work = work-group first now w;
@@ -180,10 +185,10 @@ module _ {N S R : Type 0} (t : SearchTree N) (join : S → S → S) (none : S) (
   }
 
   -- these are the group and the segments of the worker's own entries
-  pub work-group-is : (first now : Station N S R) → (w : IsWorking (searched t join none of seen coord 0) [] first now) → (work-group first now w).group ≡ group-of first now w
+  pub work-group-is : (first now : Station N S R) → (w : IsWorking (searched t join none of seen coord gap) [] first now) → (work-group first now w).group ≡ group-of first now w
   unfolding work-group
   work-group-is first now w = refl
 
-  pub work-segments-are : (first now : Station N S R) → (w : IsWorking (searched t join none of seen coord 0) [] first now) → (work-segments first now w).segments ≡ w.segments
+  pub work-segments-are : (first now : Station N S R) → (w : IsWorking (searched t join none of seen coord gap) [] first now) → (work-segments first now w).segments ≡ w.segments
   unfolding work-segments
   work-segments-are first now w = refl

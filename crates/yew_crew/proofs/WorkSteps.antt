@@ -22,7 +22,7 @@ use Rattle.yew_walk.specs.WorkerLogs.{SeatGoesOn}
 use Rattle.yew_laws.specs.Incumbent.{Incumbent, improved}
 use Rattle.yew_walk.specs.Keys.{answer_key}
 use Rattle.yew_crew.specs.Stations.{Searched, IsSameStation}
-use Rattle.yew_crew.specs.Working.{plain_walk, IsWalkSegment, IsStep, IsWorking}
+use Rattle.yew_crew.specs.Working.{gap_walk, IsWalkSegment, IsStep, IsWorking}
 use Rattle.yew_crew.specs.declared.station.Station.{Station}
 use Rattle.yew_crew.proofs.LookSteps.{looks-more}
 
@@ -124,7 +124,8 @@ module _ {N S R : Type 0} where
           };
           spawned_are = both spawned_in w.segments path x.body refl w.put x.put w.spawned_are x.spawned_are;
           handed_are = both handed_in w.segments path x.body refl w.given x.given w.handed_are x.handed_are;
-          goes = subst (λ l. SeatGoesOn s.tree first.best l after.best) (sym (map-push plain_walk w.segments seg)) (goes_on-push s.tree (map plain_walk w.segments) first.best before.best after.best (plain_walk seg) w.goes x.goes);
+          goes = subst (λ l. SeatGoesOn s.tree first.best l after.best) (sym (map-push (gap_walk s.gap) w.segments seg))
+              (goes_on-push s.tree (map (gap_walk s.gap) w.segments) first.best before.best after.best (gap_walk s.gap seg) w.goes x.goes);
           log_is = x.log_is ∙ (ap (λ l. log_after l (entries_in seg)) w.log_is ∙ (sym (log_after-append (s.seen first.log) (entries w.segments) (entries_in seg)) ∙ ap (log_after (s.seen first.log)) (sym (entries-push w.segments seg))));
           are_visited = record {
             paths_are = paths-append w.members x.members ∙ (ap (λ l. l ++ member_paths x.members) w.are_visited.paths_are ∙ (ap (λ l. visited_paths (entries w.segments) ++ l) x.are_visited.paths_are

@@ -58,16 +58,16 @@ same-stopped first after is = record {
 }
 
 -- what a walk did by a coordination, which is another one by name
-module _ {N S R : Type 0} (t : SearchTree N) (join : S → S → S) (none : S) (of : N → ℕ → S) (seen : R → LogView) (coord other : Coord) (path : List ℕ)
+module _ {N S R : Type 0} (t : SearchTree N) (join : S → S → S) (none : S) (of : N → ℕ → S) (seen : R → LogView) (coord other : Coord) (gap : ℕ) (path : List ℕ)
     (before after : Station N S R) where
-  pub step-by : (result : Result (Unit {0}) SearchFault) → coord ≡ other → OnOk result (IsStep (searched t join none of seen other 0) path before after)
-      → OnOk result (IsStep (searched t join none of seen coord 0) path before after)
-  step-by result is step = subst (λ (by : Coord). OnOk result (IsStep (searched t join none of seen by 0) path before after)) (sym is) step
+  pub step-by : (result : Result (Unit {0}) SearchFault) → coord ≡ other → OnOk result (IsStep (searched t join none of seen other gap) path before after)
+      → OnOk result (IsStep (searched t join none of seen coord gap) path before after)
+  step-by result is step = subst (λ (by : Coord). OnOk result (IsStep (searched t join none of seen by gap) path before after)) (sym is) step
 
   pub broken-by : (result : Result (Unit {0}) SearchFault) → coord ≡ other
-      → IfErr result (λ fault. IsBrokenStep (searched t join none of seen other 0) path fault before after)
-      → IfErr result (λ fault. IsBrokenStep (searched t join none of seen coord 0) path fault before after)
-  broken-by result is broken = subst (λ (by : Coord). IfErr result (λ fault. IsBrokenStep (searched t join none of seen by 0) path fault before after))
+      → IfErr result (λ fault. IsBrokenStep (searched t join none of seen other gap) path fault before after)
+      → IfErr result (λ fault. IsBrokenStep (searched t join none of seen coord gap) path fault before after)
+  broken-by result is broken = subst (λ (by : Coord). IfErr result (λ fault. IsBrokenStep (searched t join none of seen by gap) path fault before after))
       (sym is) broken
 
 module _ {P N S R : Type 0} (s : Searched S R N) where
@@ -103,17 +103,17 @@ module _ {P N S R : Type 0} (s : Searched S R N) where
       subst (λ (o : SpawningView P N). IsWorking s [] first (station_of (record spawner { outlet = o }))) (sym is)
       (work-quiet s [] first (station_of spawner) (record spawner.outlet.tasks { last = Some word; knew = spawner.outlet.tasks.knows }) spawner.outlet.pass.found_empty w refl)
 
-module _ {P N S R : Type 0} (t : SearchTree N) (join : S → S → S) (none : S) (of : N → ℕ → S) (seen : R → LogView) (coord : Coord) where
+module _ {P N S R : Type 0} (t : SearchTree N) (join : S → S → S) (none : S) (of : N → ℕ → S) (seen : R → LogView) (coord : Coord) (gap : ℕ) where
   -- it saw that all are told to stop
   pub turn-stopped : (first : Station N S R) (spawner : Spawner (SpawningView P N) N S R) (outlet : SpawningView P N) (saw : Bool) → saw ≡ true
       → outlet ≡ record spawner.outlet { tasks = record spawner.outlet.tasks { saw = spawner.outlet.tasks.saw || saw } }
-      → IsWorking (searched t join none of seen coord 0) [] first (station_of spawner)
-      → IsTurned (searched t join none of seen coord 0) first (station_of (record spawner { outlet = outlet })) (Ended Stopped)
+      → IsWorking (searched t join none of seen coord gap) [] first (station_of spawner)
+      → IsTurned (searched t join none of seen coord gap) first (station_of (record spawner { outlet = outlet })) (Ended Stopped)
   turn-stopped first spawner outlet saw shown is w =
-      let s : Searched S R N = searched t join none of seen coord 0 in
+      let s : Searched S R N = searched t join none of seen coord gap in
       let now = turn-looked s first spawner outlet (spawner.outlet.tasks.saw || saw) is w in (
         now.same,
-        work-stopped t join none of seen coord [] first (station_of (record spawner { outlet = outlet })) now
+        work-stopped t join none of seen coord gap [] first (station_of (record spawner { outlet = outlet })) now
             (ap (λ (o : SpawningView P N). o.tasks.saw) is ∙ or_true spawner.outlet.tasks.saw saw shown),
       )
 
@@ -121,13 +121,13 @@ module _ {P N S R : Type 0} (t : SearchTree N) (join : S → S → S) (none : S)
   pub turn-done : (first : Station N S R) (spawner : Spawner (SpawningView P N) N S R) (outlet : SpawningView P N) (word : ℕ) → word ≡ 0
       → outlet ≡ record spawner.outlet { tasks = record spawner.outlet.tasks { last = Some word; knew = spawner.outlet.tasks.knows } }
       → (spawner.outlet.tasks.share ≡ spawner.outlet.tasks.tasks.seats → IsExact spawner.outlet.tasks word)
-      → IsWorking (searched t join none of seen coord 0) [] first (station_of spawner)
-      → IsTurned (searched t join none of seen coord 0) first (station_of (record spawner { outlet = outlet })) (Ended Done)
+      → IsWorking (searched t join none of seen coord gap) [] first (station_of spawner)
+      → IsTurned (searched t join none of seen coord gap) first (station_of (record spawner { outlet = outlet })) (Ended Done)
   turn-done first spawner outlet word zero is exact w =
-      let s : Searched S R N = searched t join none of seen coord 0 in
+      let s : Searched S R N = searched t join none of seen coord gap in
       let now = turn-loaded s first spawner outlet word is w in (
         now.same,
-        work-done t join none of seen coord first (station_of (record spawner { outlet = outlet })) now
+        work-done t join none of seen coord gap first (station_of (record spawner { outlet = outlet })) now
             (ap (λ (o : SpawningView P N). o.tasks.last) is ∙ ap Some zero)
             (λ knows. ap (λ (o : SpawningView P N). o.tasks.knew) is ∙ w.knows knows)
             (λ whole. ap (λ (o : SpawningView P N). o.tasks.made % 2 ^ 64) is
@@ -140,22 +140,19 @@ module _ {P N S R : Type 0} (t : SearchTree N) (join : S → S → S) (none : S)
   pub turn-broken : (path : List ℕ) (fault : SearchFault) (first : Station N S R) (before after : Spawner (SpawningView P N) N S R)
       (outlet : SpawningView P N)
       → outlet ≡ record after.outlet { tasks = record after.outlet.tasks { stops = after.outlet.tasks.stops + 1 } }
-      → IsWorking (searched t join none of seen coord 0) (path ∷ []) first (station_of before)
-      → IsBrokenStep (searched t join none of seen coord 0) path fault (station_of before) (station_of after)
-      → IsTurned (searched t join none of seen coord 0) first (station_of (record after { outlet = outlet })) (Ended (Fault fault))
+      → IsWorking (searched t join none of seen coord gap) (path ∷ []) first (station_of before)
+      → IsBrokenStep (searched t join none of seen coord gap) path fault (station_of before) (station_of after)
+      → IsTurned (searched t join none of seen coord gap) first (station_of (record after { outlet = outlet })) (Ended (Fault fault))
   turn-broken path fault first before after outlet is w b =
-      let s : Searched S R N = searched t join none of seen coord 0 in
+      let s : Searched S R N = searched t join none of seen coord gap in
       subst (λ (o : SpawningView P N). IsTurned s first (station_of (record after { outlet = o })) (Ended (Fault fault))) (sym is) (
         same-stopped first (station_of after) (same-twice first (station_of before) (station_of after) w.same b.same),
-        work-broken t join none of seen coord path fault first (station_of before) (station_of after)
+        work-broken t join none of seen coord gap path fault first (station_of before) (station_of after)
             (record after.outlet.tasks { stops = after.outlet.tasks.stops + 1 }) w b refl,
       )
 
-module _ {N S R : Type 0} (t : SearchTree N) (join : S → S → S) (none : S) (of : N → ℕ → S) (seen : R → LogView) (coord : Coord) where
-  -- the report of a worker that has come to its end, where the gap is 0
-  pub reported : (gap : ℕ) → gap ≡ 0 → (first now : Station N S R) (end : End) (report : Report N S R) → report ≡ record { station = now; end = end }
-      → IsTurned (searched t join none of seen coord 0) first now (Ended end) → IsReport (searched t join none of seen coord gap) first report
-  reported gap zero first now end report is turned =
-      subst (IsReport (searched t join none of seen coord gap) first) (sym is)
-      (subst (λ (g : ℕ). IsReport (searched t join none of seen coord g) first (record { station = now; end = end })) (sym zero)
-      (record { same = turned.0; ends = turned.1 }))
+module _ {N S R : Type 0} (t : SearchTree N) (join : S → S → S) (none : S) (of : N → ℕ → S) (seen : R → LogView) (coord : Coord) (gap : ℕ) where
+  -- the report of a worker that has come to its end
+  pub reported : (first now : Station N S R) (end : End) (report : Report N S R) → report ≡ record { station = now; end = end }
+      → IsTurned (searched t join none of seen coord gap) first now (Ended end) → IsReport (searched t join none of seen coord gap) first report
+  reported first now end report is turned = subst (IsReport (searched t join none of seen coord gap) first) (sym is) (record { same = turned.0; ends = turned.1 })

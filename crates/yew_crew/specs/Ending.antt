@@ -3,10 +3,11 @@ use Rattle.std.specs.Prelude.{◌≡◌, ℕ, List, ◌∷◌, Option, None, map
 use Rattle.yew_laws.specs.Fold.{Fold}
 use Rattle.yew_laws.specs.PathValue.{PathValue}
 use Rattle.yew_laws.specs.SearchTree.{at_path}
+use Rattle.yew_walk.specs.Answers.{IsNear}
 use Rattle.yew_walk.specs.Hands.{incumbent_of, numbers_of}
 use Rattle.yew_walk.specs.PlainSearch.{NeverCuts}
 use Rattle.yew_walk.specs.declared.hand.Hand.{Hand}
-use Rattle.yew_crew.specs.CrewSearch.{IsNear, HasCrewLogs}
+use Rattle.yew_crew.specs.CrewSearch.{HasCrewLogs}
 use Rattle.yew_crew.specs.Crews.{best_with, tasks_with, stations_of}
 use Rattle.yew_crew.specs.Joining.{fault_in, passes_of, seats_of, hands_of, logs_of}
 use Rattle.yew_crew.specs.OpenSeats.{IsExact}

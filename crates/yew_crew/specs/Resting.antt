@@ -15,7 +15,7 @@ use Rattle.yew_mail.specs.Seats as seats
 use Rattle.yew_pool.specs.Passes as pool
 use Rattle.yew_walk.specs.declared.fault.SearchFault.{SearchFault}
 use Rattle.yew_walk.specs.declared.hand.Hand.{Hand}
-use Rattle.yew_walk.specs.declared.keying.Keying.TheVariants.{Plain}
+use Rattle.yew_walk.specs.declared.keying.Keying.TheVariants.{Plain, Gap}
 use Rattle.yew_walk.specs.Hands.{incumbent_of, best_after}
 use Rattle.yew_walk.specs.LogViews.{log_after}
 use Rattle.yew_walk.specs.Scenes.{IsCause}
@@ -23,7 +23,7 @@ use Rattle.yew_walk.specs.Seats.{SeatGoes}
 use Rattle.yew_walk.specs.WorkerLogs.{SeatGoesOn}
 use Rattle.yew_crew.specs.Groups.{Group, taken, IsBalanced}
 use Rattle.yew_crew.specs.Stations.{Searched}
-use Rattle.yew_crew.specs.Working.{plain_walk}
+use Rattle.yew_crew.specs.Working.{gap_walk}
 
 -- these tasks are all that the passes left, and behind them all that the mail seats left
 pub record IsAllLeft {N : Type 0} (passes : List (pool.PassView (Task N) (Members N))) (seats : List (seats.SeatView (Task N) (Members N))) (left : List (Task N)) : Type 0 where
@@ -46,7 +46,7 @@ module _ {S R N : Type 0} (s : Searched S R N) where
     pub sent_none : sent_paths (entries segments) ≡ []
     pub put_none : group.put ≡ []
     pub given_none : group.given ≡ []
-    pub goes : SeatGoesOn s.tree seat (map plain_walk segments) seat'
+    pub goes : SeatGoesOn s.tree seat (map (gap_walk s.gap) segments) seat'
     pub reads : seat'.read ≡ seat.read ++ group.read
     pub offers : seat'.offered ≡ seat.offered ++ group.offered
     pub log_is : s.seen log' ≡ log_after (s.seen log) (entries segments)
@@ -69,7 +69,7 @@ module _ {S R N : Type 0} (s : Searched S R N) where
     pub keeps : IsBrokenLog s.tree s.gap plain (entries segments ++ notes)
     pub keeps_ahead : IsBrokenLog s.tree s.gap plain (entries segments ++ (notes ++ ahead))
     pub between : SeatView
-    pub goes : SeatGoesOn s.tree seat (map plain_walk segments) between
-    pub goes_last : SeatGoes s.tree Plain between (notes ++ ahead) seat'
+    pub goes : SeatGoesOn s.tree seat (map (gap_walk s.gap) segments) between
+    pub goes_last : SeatGoes s.tree (Gap s.gap) between (notes ++ ahead) seat'
     pub log_is : s.seen log' ≡ log_after (s.seen log) (entries segments ++ notes)
     pub cause : IsCause fault (s.seen log') ahead

@@ -56,7 +56,6 @@ module _ {N : Type 0} (members : Members N) where
     pub deques : length shared.pool.deques ≡ workers
     pub mailboxes : shared.mail.workers ≡ workers
     pub open_seats : shared.tasks.seats ≡ workers
-    pub gap : shared.gap ≡ 0
 
 module _ {N S R : Type 0} (members : Members N) (none : S) (seen : R → LogView) (shared : Shared N) where
   -- The station at this place, from 0, as its worker begins: the seats and the pass have done nothing but to make this many tasks and to put these; the hand is empty and has its space, and the log is new
@@ -101,7 +100,6 @@ module _ {N S R : Type 0} (members : Members N) (none : S) (seen : R → LogView
     pub deques : length shared.pool.deques ≡ workers
     pub mailboxes : shared.mail.workers ≡ workers
     pub open_seats : shared.tasks.seats ≡ workers
-    pub gap : shared.gap ≡ 0
 
 module _ {N S R : Type 0} (s : Searched S R N) (fits : S → Type 0) (members : Members N) (workers : ℕ) where
   -- A crew of so many workers has worked: there is a report of each, in order, on the station that it was given

@@ -14,7 +14,7 @@ use Rattle.yew_mail.specs.Views.{first_of}
 use Rattle.yew_mail.specs.declared.boxes.Seen.{Seen}
 use Rattle.yew_mail.specs.declared.view.Found.{Found}
 use Rattle.yew_walk.specs.declared.fault.SearchFault.{SearchFault}
-use Rattle.yew_walk.specs.declared.keying.Keying.TheVariants.{Plain}
+use Rattle.yew_walk.specs.declared.keying.Keying.TheVariants.{Plain, Gap}
 use Rattle.yew_walk.specs.Hands.{incumbent_of, best_after, AreVisited}
 use Rattle.yew_walk.specs.LogViews.{log_after}
 use Rattle.yew_walk.specs.Scenes.{IsCause}
@@ -26,9 +26,9 @@ use Rattle.yew_crew.specs.Reports.{Moved}
 use Rattle.yew_crew.specs.Stations.{Searched, skeleton_of, IfSteal, IsSameStation}
 use Rattle.yew_crew.specs.declared.station.Station.{Station}
 
--- the segment of a walk with plain keys
-abbrev pub plain_walk : Segment → KeyedSegment
-plain_walk s = record { keying = Plain; segment = s }
+-- the segment of a walk that permits a gap
+abbrev pub gap_walk : ℕ → Segment → KeyedSegment
+gap_walk gap s = record { keying = Gap gap; segment = s }
 
 module _ {S R N : Type 0} (s : Searched S R N) where
   -- The segment of a walk, alone: it keeps the rules, also those of a segment that may have been broken off, and has the groups of the coordination
@@ -37,7 +37,7 @@ module _ {S R N : Type 0} (s : Searched S R N) where
     pub is_broken : IsBroken s.tree seg
     pub groups : HasGroups (SkeletonGroup s.tree (skeleton_of s.coord)) seg.body
     pub rises : HeldRises (entries_in seg)
-    pub judged : IsJudged s.tree 0 plain (entries_in seg)
+    pub judged : IsJudged s.tree s.gap plain (entries_in seg)
 
 module _ {N S R : Type 0} (s : Searched S R N) where
   -- one walk of this task, counted as ended
@@ -50,7 +50,7 @@ module _ {N S R : Type 0} (s : Searched S R N) where
     pub moved : Moved before after [] put [] given
     pub spawned_are : SameBag put (spawned_paths body)
     pub handed_are : SameBag given (handed_paths body)
-    pub goes : SeatGoes s.tree Plain before.best (entries_in (segment path body)) after.best
+    pub goes : SeatGoes s.tree (Gap s.gap) before.best (entries_in (segment path body)) after.best
     pub log_is : s.seen after.log ≡ log_after (s.seen before.log) (entries_in (segment path body))
     pub are_visited : AreVisited s.tree body members
     pub sum_is : after.hand.sum ≡ s.join before.hand.sum (fold_of s.join s.none (of_member s.of) members)
@@ -71,10 +71,10 @@ module _ {N S R : Type 0} (s : Searched S R N) where
     pub given : List (List ℕ)
     pub moved : Moved before after [] put [] given
     pub log_is : s.seen after.log ≡ log_after (s.seen before.log) notes
-    pub keeps : IsBrokenWalk s.tree 0 plain path notes
-    pub keeps_ahead : IsBrokenWalk s.tree 0 plain path (notes ++ ahead)
+    pub keeps : IsBrokenWalk s.tree s.gap plain path notes
+    pub keeps_ahead : IsBrokenWalk s.tree s.gap plain path (notes ++ ahead)
     pub part : PartOfBag (covered_paths s.tree (notes ++ ahead)) (below s.tree path)
-    pub goes : SeatGoes s.tree Plain before.best (notes ++ ahead) after.best
+    pub goes : SeatGoes s.tree (Gap s.gap) before.best (notes ++ ahead) after.best
     pub sent_are : PartOfBag (put ++ given) (sent_paths notes)
     pub cause : IsCause fault (s.seen after.log) ahead
     pub no_stop : after.tasks.stops ≡ before.tasks.stops
@@ -93,7 +93,7 @@ module _ {N S R : Type 0} (s : Searched S R N) where
     pub taken_are : SameBag (took ++ got) (tasks_of segments ++ rest)
     pub spawned_are : SameBag put (spawned_paths (entries segments))
     pub handed_are : SameBag given (handed_paths (entries segments))
-    pub goes : SeatGoesOn s.tree first.best (map plain_walk segments) now.best
+    pub goes : SeatGoesOn s.tree first.best (map (gap_walk s.gap) segments) now.best
     pub log_is : s.seen now.log ≡ log_after (s.seen first.log) (entries segments)
     pub are_visited : AreVisited s.tree (entries segments) members
     pub sum_is : now.hand.sum ≡ s.join first.hand.sum (fold_of s.join s.none (of_member s.of) members)

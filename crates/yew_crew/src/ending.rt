@@ -46,11 +46,13 @@ fn close_tasks<N: Drop>(
     Ok(left)
 }
 
-// Walks what is left in the first worker's place, and shares nothing out. A walk that is refused ends it.
+// Walks what is left in the first worker's place, with this permitted gap, and shares nothing out. A walk that is refused
+// ends it.
 fn walk_rest<P: Problem, T: Tally<P::Node>, R: Recorder>(
     alloc: Global,
     problem: &P,
     tally: &T,
+    gap: u64,
     best: &Best,
     seat: &mut BestSeat,
     hand: &mut Hand<T::Sum>,
@@ -61,11 +63,12 @@ fn walk_rest<P: Problem, T: Tally<P::Node>, R: Recorder>(
     requires seat { seat.old.best ≡ best.now }
     requires space { 65535 ≤ hand.old.path.space }
     requires fits { T.fits tally.now hand.old.sum }
+    requires gap { gap ≤ 1099511627774 }
     requires tasks { AllByRecursion (IsAmong (members_of (search_tree P.Problem problem.now))) left.items }
-    ensures ok { OnOk result (IsRested (searched (search_tree P.Problem problem.now) (T.join tally.now) (T.none tally.now) (T.of tally.now) (λ log. log_view (R.told log) (R.totals log) (R.number log)) (coordination.Depth 0) 0)
+    ensures ok { OnOk result (IsRested (searched (search_tree P.Problem problem.now) (T.join tally.now) (T.none tally.now) (T.of tally.now) (λ log. log_view (R.told log) (R.totals log) (R.number log)) (coordination.Depth 0) gap)
         (paths_of left.items) seat.old hand.old log.old seat.new hand.new log.new) }
     ensures refused { IfErr result (λ fault. IsRestRefused (searched (search_tree P.Problem problem.now) (T.join tally.now) (T.none tally.now) (T.of tally.now)
-        (λ log. log_view (R.told log) (R.totals log) (R.number log)) (coordination.Depth 0) 0)
+        (λ log. log_view (R.told log) (R.totals log) (R.number log)) (coordination.Depth 0) gap)
         (paths_of left.items) fault seat.old log.old seat.new log.new) }
     ensures best { seat.new.best ≡ seat.old.best }
     ensures share { seat.new.share ≡ seat.old.share }
@@ -80,7 +83,7 @@ fn walk_rest<P: Problem, T: Tally<P::Node>, R: Recorder>(
             task,
             best,
             seat,
-            Keying::Plain,
+            Keying::Gap(gap),
             &mut policy,
             &mut outlet,
             tally,
@@ -115,7 +118,7 @@ fn settle<P: Problem, T: Tally<P::Node>, R: Recorder>(
     workers: u32,
     worked: Worked<P::Node, T::Sum, R>,
 ) -> Result<Settled<P::Node, T::Sum, R>, Memory>
-    requires { HasWorked (searched (search_tree P.Problem problem.now) (T.join tally.now) (T.none tally.now) (T.of tally.now) (λ log. log_view (R.told log) (R.totals log) (R.number log)) coord 0)
+    requires { HasWorked (searched (search_tree P.Problem problem.now) (T.join tally.now) (T.none tally.now) (T.of tally.now) (λ log. log_view (R.told log) (R.totals log) (R.number log)) coord worked.shared.gap)
         (T.fits tally.now) (members_of (search_tree P.Problem problem.now)) workers worked.shared worked.reports.items }
     ensures settled { IfOk result (IsSettled worked.shared worked.reports.items) }
 {
@@ -174,12 +177,14 @@ pub(crate) fn end_crew<P: Problem, T: Tally<P::Node>, R: Recorder>(
     worked: Worked<P::Node, T::Sum, R>,
 ) -> Result<Ended<T::Sum, R>, SearchFault>
     requires root { P.sound problem.now (P.root problem.now) }
-    requires worked { HasWorked (searched (search_tree P.Problem problem.now) (T.join tally.now) (T.none tally.now) (T.of tally.now) (λ log. log_view (R.told log) (R.totals log) (R.number log)) coord 0)
+    requires worked { HasWorked (searched (search_tree P.Problem problem.now) (T.join tally.now) (T.none tally.now) (T.of tally.now) (λ log. log_view (R.told log) (R.totals log) (R.number log)) coord worked.shared.gap)
         (T.fits tally.now) (members_of (search_tree P.Problem problem.now)) workers worked.shared worked.reports.items }
-    ensures found { IfOk result (λ ended. IsFound (searched (search_tree P.Problem problem.now) (T.join tally.now) (T.none tally.now) (T.of tally.now) (λ log. log_view (R.told log) (R.totals log) (R.number log)) coord 0)
+    requires gap { worked.shared.gap ≤ 1099511627774 }
+    ensures found { IfOk result (λ ended. IsFound (searched (search_tree P.Problem problem.now) (T.join tally.now) (T.none tally.now) (T.of tally.now) (λ log. log_view (R.told log) (R.totals log) (R.number log)) coord worked.shared.gap)
         workers ended.hand ended.logs.items) }
-    ensures fault { IfErr result (IsCrewFault (search_tree P.Problem problem.now) 0 (skeleton_of coord) workers ((log : R) × IsSome (R.told log))) }
+    ensures fault { IfErr result (IsCrewFault (search_tree P.Problem problem.now) worked.shared.gap (skeleton_of coord) workers ((log : R) × IsSome (R.told log))) }
 {
+    let gap = worked.shared.gap;
     let Settled {
         best,
         mut seat,
@@ -195,6 +200,7 @@ pub(crate) fn end_crew<P: Problem, T: Tally<P::Node>, R: Recorder>(
         alloc,
         problem,
         tally,
+        gap,
         &best,
         &mut seat,
         &mut hands[0],

@@ -18,7 +18,7 @@ use yew_log::Recorder;
 use yew_stack::Chunk;
 use yew_walk::{Hand, Hungry, Keying, SearchFault, walk};
 
-/// Walks one task to its end, and counts it as ended. A worker that asks in the meantime is given this chunk of the lowest
+/// Walks one task to its end, with this permitted gap, and counts it as ended. A worker that asks in the meantime is given this chunk of the lowest
 /// level. A walk that is refused is not counted.
 ///
 /// # Errors
@@ -32,6 +32,7 @@ pub fn walk_handing<P: Problem, T: Tally<P::Node>, R: Recorder>(
     best: &Best,
     seat: &mut BestSeat,
     chunk: Chunk,
+    gap: u64,
     outlet: &mut Handing<'_, P>,
     tally: &T,
     hand: &mut Hand<T::Sum>,
@@ -43,13 +44,14 @@ pub fn walk_handing<P: Problem, T: Tally<P::Node>, R: Recorder>(
     requires outlet { outlet.old.problem ≡ problem.now }
     requires space { 65535 ≤ hand.old.path.space }
     requires fits { T.fits tally.now hand.old.sum }
+    requires gap { gap ≤ 1099511627774 }
     ensures step { OnOk result ((number : ℕ) (pass : PassView (TaskValue P.Node) (Members P.Node)) →
         IsStep (searched (search_tree P.Problem problem.now) (T.join tally.now) (T.none tally.now) (T.of tally.now)
-        (λ l. log_view (R.told l) (R.totals l) (R.number l)) (Steal chunk) 0) task.path.numbers
+        (λ l. log_view (R.told l) (R.totals l) (R.number l)) (Steal chunk) gap) task.path.numbers
         (station number seat.old pass outlet.old.seat outlet.old.tasks hand.old log.old) (station number seat.new pass outlet.new.seat outlet.new.tasks hand.new log.new)) }
     ensures refused { IfErr result (λ fault. (number : ℕ) (pass : PassView (TaskValue P.Node) (Members P.Node)) →
         IsBrokenStep (searched (search_tree P.Problem problem.now) (T.join tally.now) (T.none tally.now) (T.of tally.now)
-        (λ l. log_view (R.told l) (R.totals l) (R.number l)) (Steal chunk) 0) task.path.numbers fault
+        (λ l. log_view (R.told l) (R.totals l) (R.number l)) (Steal chunk) gap) task.path.numbers fault
         (station number seat.old pass outlet.old.seat outlet.old.tasks hand.old log.old) (station number seat.new pass outlet.new.seat outlet.new.tasks hand.new log.new)) }
     ensures fits { T.fits tally.now hand.new.sum }
     ensures problem { outlet.new.problem ≡ outlet.old.problem }
@@ -62,7 +64,7 @@ pub fn walk_handing<P: Problem, T: Tally<P::Node>, R: Recorder>(
         task,
         best,
         seat,
-        Keying::Plain,
+        Keying::Gap(gap),
         &mut policy,
         outlet,
         tally,

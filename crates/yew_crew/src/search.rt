@@ -24,12 +24,13 @@ use yew_laws::Problem;
 use yew_log::Recorder;
 use yew_walk::{Found, SearchFault};
 
-/// Searches the whole tree of a problem with a crew.
+/// Searches the whole tree of a problem with a crew, which permits this gap.
 fn search_together<Q: Problem, T: Tally<Q::Node>, R: Recorder, G: Gate, H: Threads + Wait + Sync>(
     rt: &H,
     alloc: Global,
     problem: &Q,
     tally: &T,
+    gap: u64,
     coord: Coord,
     workers: u32,
     gate: &G,
@@ -37,11 +38,12 @@ fn search_together<Q: Problem, T: Tally<Q::Node>, R: Recorder, G: Gate, H: Threa
     requires root { Q.sound problem.now (Q.root problem.now) }
     requires workers { (1 ≤ workers) × (workers ≤ 64) }
     requires coord { IsCoord coord }
+    requires gap { gap ≤ 1099511627774 }
     ensures found { IfOk result (λ ended. IsFound (searched (search_tree Q.Problem problem.now) (T.join tally.now) (T.none tally.now) (T.of tally.now)
-        (λ log. log_view (R.told log) (R.totals log) (R.number log)) coord 0) workers ended.hand ended.logs.items) }
-    ensures fault { IfErr result (IsCrewFault (search_tree Q.Problem problem.now) 0 (skeleton_of coord) workers ((log : R) × IsSome (R.told log))) }
+        (λ log. log_view (R.told log) (R.totals log) (R.number log)) coord gap) workers ended.hand ended.logs.items) }
+    ensures fault { IfErr result (IsCrewFault (search_tree Q.Problem problem.now) gap (skeleton_of coord) workers ((log : R) × IsSome (R.told log))) }
 {
-    let worked = run_crew(rt, alloc, problem, tally, coord, workers, gate)?;
+    let worked = run_crew(rt, alloc, problem, tally, gap, coord, workers, gate)?;
     end_crew(alloc, problem, tally, coord, workers, worked)
 }
 
@@ -65,7 +67,7 @@ fn count<P: Problem, T: Tally<P::Node>, R: Recorder, G: Gate, H: Threads + Wait 
     ensures fault { IfErr result (IsCrewFault (counted_tree (search_tree P.Problem problem.now)) 0 (skeleton_of coord) workers ((log : R) × IsSome (R.told log))) }
 {
     let counted = Counted { inner: problem };
-    match search_together::<_, _, R, _, _>(rt, alloc, &counted, tally, coord, workers, gate) {
+    match search_together::<_, _, R, _, _>(rt, alloc, &counted, tally, 0, coord, workers, gate) {
         Ok(Ended { hand, logs }) => Ok(Found {
             answer: Answer::Count(hand.sum),
             logs,
@@ -91,7 +93,41 @@ fn best<P: Problem, S: Drop, R: Recorder, G: Gate, H: Threads + Wait + Sync>(
         HasCrewLogs t 0 (skeleton_of coord) workers (map (λ log. log_view (R.told log) (R.totals log) (R.number log)) found.logs.items) (solution_of t found.answer)) }
     ensures fault { IfErr result (IsCrewFault (search_tree P.Problem problem.now) 0 (skeleton_of coord) workers ((log : R) × IsSome (R.told log))) }
 {
-    match search_together::<_, _, R, _, _>(rt, alloc, problem, &NoTally, coord, workers, gate) {
+    match search_together::<_, _, R, _, _>(rt, alloc, problem, &NoTally, 0, coord, workers, gate) {
+        Ok(Ended { hand, logs }) => {
+            let worth = hand.best_key();
+            let path = hand.into_path();
+            Ok(Found {
+                answer: Answer::Best { worth, path },
+                logs,
+            })
+        }
+        Err(fault) => Err(fault),
+    }
+}
+
+/// A node whose worth is within a gap of the best.
+fn near<P: Problem, S: Drop, R: Recorder, G: Gate, H: Threads + Wait + Sync>(
+    rt: &H,
+    alloc: Global,
+    problem: &P,
+    gap: u64,
+    coord: Coord,
+    workers: u32,
+    gate: &G,
+) -> Result<Found<S, R>, SearchFault>
+    requires root { P.sound problem.now (P.root problem.now) }
+    requires gap { gap ≤ 1099511627774 }
+    requires workers { (1 ≤ workers) × (workers ≤ 64) }
+    requires coord { IsCoord coord }
+    ensures answer { (fold : S) → IfOk result (λ found. IsCrewAnswer (search_tree P.Problem problem.now) fold (kind.Near gap) found.answer) }
+    ensures logs { IfOk result (λ found. let t = search_tree P.Problem problem.now in
+        HasCrewLogs t gap (skeleton_of coord) workers (map (λ log. log_view (R.told log) (R.totals log) (R.number log)) found.logs.items) (solution_of t found.answer)) }
+    ensures fault { IfErr result (IsCrewFault (search_tree P.Problem problem.now) gap (skeleton_of coord) workers ((log : R) × IsSome (R.told log))) }
+{
+    match search_together::<_, _, R, _, _>(
+        rt, alloc, problem, &NoTally, gap, coord, workers, gate,
+    ) {
         Ok(Ended { hand, logs }) => {
             let worth = hand.best_key();
             let path = hand.into_path();
@@ -128,7 +164,7 @@ fn reach<P: Problem, S: Drop, R: Recorder, G: Gate, H: Threads + Wait + Sync>(
         target,
     };
     clipped_members(&clipped);
-    match search_together::<_, _, R, _, _>(rt, alloc, &clipped, &NoTally, coord, workers, gate) {
+    match search_together::<_, _, R, _, _>(rt, alloc, &clipped, &NoTally, 0, coord, workers, gate) {
         Ok(Ended { hand, logs }) => Ok(Found {
             answer: Answer::Reach(hand.into_path()),
             logs,
@@ -145,6 +181,11 @@ fn reach<P: Problem, S: Drop, R: Recorder, G: Gate, H: Threads + Wait + Sync>(
 /// answers the greatest worth, and a path whose node has it, which there is exactly where that worth is not 0; and a decision
 /// answers a path whose node has at least the target as its worth, exactly where some node has. Which of several such
 /// paths is answered depends on the schedule. A target is from 1 to 2^40 - 1.
+///
+/// A search that permits a gap may cut off a node whose bound is greater than the worth that is held by no more than the
+/// gap, and answers a worth that some node has, with a path whose node has it: in every schedule the greatest worth is at
+/// most that worth and the gap together, and is 0 where it is 0. Which such worth is answered depends on the schedule. A
+/// gap is from 0 to 2^40 - 2.
 ///
 /// There is a log of each worker, in order, and together they are those of a whole search. What is left of the tasks
 /// after all workers have ended is walked in the first worker's place.
@@ -177,6 +218,6 @@ pub fn search_crew<P: Problem, T: Tally<P::Node>, R: Recorder, G: Gate, H: Threa
         Kind::Count => count(rt, alloc, problem, tally, coord, workers, gate),
         Kind::Best => best(rt, alloc, problem, coord, workers, gate),
         Kind::Reach(target) => reach(rt, alloc, problem, target, coord, workers, gate),
-        Kind::Near(_) => unreachable!(),
+        Kind::Near(gap) => near(rt, alloc, problem, gap, coord, workers, gate),
     }
 }

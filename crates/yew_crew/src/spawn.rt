@@ -20,7 +20,7 @@ use yew_laws::{Problem, Task};
 use yew_log::Recorder;
 use yew_walk::{Hand, Keying, Policy, SearchFault, walk};
 
-/// Walks one task to its end, and counts it as ended. A walk that is refused is not counted.
+/// Walks one task to its end, with this permitted gap, and counts it as ended. A walk that is refused is not counted.
 ///
 /// # Errors
 ///
@@ -33,6 +33,7 @@ pub fn walk_spawning<P: Problem, Q: Policy, T: Tally<P::Node>, R: Recorder>(
     best: &Best,
     seat: &mut BestSeat,
     coord: Coord,
+    gap: u64,
     policy: &mut Q,
     outlet: &mut Spawning<'_, P>,
     tally: &T,
@@ -46,12 +47,13 @@ pub fn walk_spawning<P: Problem, Q: Policy, T: Tally<P::Node>, R: Recorder>(
     requires space { 65535 ≤ hand.old.path.space }
     requires fits { T.fits tally.now hand.old.sum }
     requires spawns { Spawns coord }
+    requires gap { gap ≤ 1099511627774 }
     requires groups { (answers : List Bool) (body : List Note) → HasPolicy (search_tree P.Problem problem.now) Q.meaning policy.old answers body → HasGroups (SkeletonGroup (search_tree P.Problem problem.now) (skeleton_of coord)) body }
     ensures step { OnOk result ((number : ℕ) (mail : MailSeatView (TaskValue P.Node) (Members P.Node)) →
-        IsStep (searched (search_tree P.Problem problem.now) (T.join tally.now) (T.none tally.now) (T.of tally.now) (λ l. log_view (R.told l) (R.totals l) (R.number l)) coord 0) task.path.numbers
+        IsStep (searched (search_tree P.Problem problem.now) (T.join tally.now) (T.none tally.now) (T.of tally.now) (λ l. log_view (R.told l) (R.totals l) (R.number l)) coord gap) task.path.numbers
         (station number seat.old outlet.old.pass mail outlet.old.tasks hand.old log.old) (station number seat.new outlet.new.pass mail outlet.new.tasks hand.new log.new)) }
     ensures refused { IfErr result (λ fault. (number : ℕ) (mail : MailSeatView (TaskValue P.Node) (Members P.Node)) →
-        IsBrokenStep (searched (search_tree P.Problem problem.now) (T.join tally.now) (T.none tally.now) (T.of tally.now) (λ l. log_view (R.told l) (R.totals l) (R.number l)) coord 0) task.path.numbers fault
+        IsBrokenStep (searched (search_tree P.Problem problem.now) (T.join tally.now) (T.none tally.now) (T.of tally.now) (λ l. log_view (R.told l) (R.totals l) (R.number l)) coord gap) task.path.numbers fault
         (station number seat.old outlet.old.pass mail outlet.old.tasks hand.old log.old) (station number seat.new outlet.new.pass mail outlet.new.tasks hand.new log.new)) }
     ensures fits { T.fits tally.now hand.new.sum }
     ensures problem { outlet.new.problem ≡ outlet.old.problem }
@@ -63,7 +65,7 @@ pub fn walk_spawning<P: Problem, Q: Policy, T: Tally<P::Node>, R: Recorder>(
         task,
         best,
         seat,
-        Keying::Plain,
+        Keying::Gap(gap),
         policy,
         outlet,
         tally,

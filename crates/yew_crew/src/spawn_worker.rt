@@ -54,6 +54,7 @@ fn walk_task<P: Problem, T: Tally<P::Node>, R: Recorder>(
     problem: &P,
     tally: &T,
     coord: Coord,
+    gap: u64,
     best: &Best,
     task: Task<P::Node>,
     spawner: &mut Spawner<Spawning<'_, P>, P::Node, T::Sum, R>,
@@ -62,14 +63,15 @@ fn walk_task<P: Problem, T: Tally<P::Node>, R: Recorder>(
     requires task { IsTask P.Problem problem.now task.path.numbers task.node }
     requires coord { IsCoord coord }
     requires spawns { Spawns coord }
+    requires gap { gap ≤ 1099511627774 }
     requires seat { spawner.old.best.best ≡ best.now }
     requires outlet { spawner.old.outlet.problem ≡ problem.now }
     requires space { 65535 ≤ spawner.old.hand.path.space }
     requires fits { T.fits tally.now spawner.old.hand.sum }
     ensures step { OnOk result (IsStep (searched (search_tree P.Problem problem.now) (T.join tally.now) (T.none tally.now) (T.of tally.now)
-        (λ l. log_view (R.told l) (R.totals l) (R.number l)) coord 0) task.path.numbers (station_of spawner.old) (station_of spawner.new)) }
+        (λ l. log_view (R.told l) (R.totals l) (R.number l)) coord gap) task.path.numbers (station_of spawner.old) (station_of spawner.new)) }
     ensures refused { IfErr result (λ fault. IsBrokenStep (searched (search_tree P.Problem problem.now) (T.join tally.now) (T.none tally.now) (T.of tally.now)
-        (λ l. log_view (R.told l) (R.totals l) (R.number l)) coord 0) task.path.numbers fault (station_of spawner.old) (station_of spawner.new)) }
+        (λ l. log_view (R.told l) (R.totals l) (R.number l)) coord gap) task.path.numbers fault (station_of spawner.old) (station_of spawner.new)) }
     ensures fits { T.fits tally.now spawner.new.hand.sum }
     ensures problem { spawner.new.outlet.problem ≡ spawner.old.outlet.problem }
 {
@@ -81,6 +83,7 @@ fn walk_task<P: Problem, T: Tally<P::Node>, R: Recorder>(
             best,
             &mut spawner.best,
             coord,
+            gap,
             &mut Depth::new(depth),
             &mut spawner.outlet,
             tally,
@@ -94,6 +97,7 @@ fn walk_task<P: Problem, T: Tally<P::Node>, R: Recorder>(
             best,
             &mut spawner.best,
             coord,
+            gap,
             &mut Budget::new(every),
             &mut spawner.outlet,
             tally,
@@ -110,6 +114,7 @@ fn task_turn<P: Problem, T: Tally<P::Node>, R: Recorder>(
     problem: &P,
     tally: &T,
     coord: Coord,
+    gap: u64,
     best: &Best,
     task: Task<P::Node>,
     spawner: &mut Spawner<Spawning<'_, P>, P::Node, T::Sum, R>,
@@ -118,19 +123,20 @@ fn task_turn<P: Problem, T: Tally<P::Node>, R: Recorder>(
     requires task { IsTask P.Problem problem.now task.path.numbers task.node }
     requires coord { IsCoord coord }
     requires spawns { Spawns coord }
+    requires gap { gap ≤ 1099511627774 }
     requires seat { spawner.old.best.best ≡ best.now }
     requires outlet { spawner.old.outlet.problem ≡ problem.now }
     requires space { 65535 ≤ spawner.old.hand.path.space }
     requires fits { T.fits tally.now spawner.old.hand.sum }
     ensures turned { (first : StationValue P.Node T.Sum R) → T.fits tally.now first.hand.sum
         → IsWorking (searched (search_tree P.Problem problem.now) (T.join tally.now) (T.none tally.now) (T.of tally.now)
-        (λ l. log_view (R.told l) (R.totals l) (R.number l)) coord 0) (task.path.numbers ∷ []) first (station_of spawner.old)
+        (λ l. log_view (R.told l) (R.totals l) (R.number l)) coord gap) (task.path.numbers ∷ []) first (station_of spawner.old)
         → IsTurned (searched (search_tree P.Problem problem.now) (T.join tally.now) (T.none tally.now) (T.of tally.now)
-        (λ l. log_view (R.told l) (R.totals l) (R.number l)) coord 0) first (station_of spawner.new) result }
+        (λ l. log_view (R.told l) (R.totals l) (R.number l)) coord gap) first (station_of spawner.new) result }
     ensures fits { T.fits tally.now spawner.new.hand.sum }
     ensures problem { spawner.new.outlet.problem ≡ spawner.old.outlet.problem }
 {
-    match walk_task(alloc, problem, tally, coord, best, task, spawner) {
+    match walk_task(alloc, problem, tally, coord, gap, best, task, spawner) {
         Ok(()) => Turn::Walked,
         Err(fault) => {
             spawner.outlet.stop();
@@ -146,6 +152,7 @@ fn take_turn<P: Problem, T: Tally<P::Node>, R: Recorder, G: Gate, H: Threads + W
     problem: &P,
     tally: &T,
     coord: Coord,
+    gap: u64,
     best: &Best,
     gate: &G,
     taken: &mut u64,
@@ -154,15 +161,16 @@ fn take_turn<P: Problem, T: Tally<P::Node>, R: Recorder, G: Gate, H: Threads + W
     requires root { P.sound problem.now (P.root problem.now) }
     requires coord { IsCoord coord }
     requires spawns { Spawns coord }
+    requires gap { gap ≤ 1099511627774 }
     requires seat { spawner.old.best.best ≡ best.now }
     requires outlet { spawner.old.outlet.problem ≡ problem.now }
     requires space { 65535 ≤ spawner.old.hand.path.space }
     requires fits { T.fits tally.now spawner.old.hand.sum }
     ensures turned { (first : StationValue P.Node T.Sum R) → T.fits tally.now first.hand.sum
         → IsWorking (searched (search_tree P.Problem problem.now) (T.join tally.now) (T.none tally.now) (T.of tally.now)
-        (λ l. log_view (R.told l) (R.totals l) (R.number l)) coord 0) [] first (station_of spawner.old)
+        (λ l. log_view (R.told l) (R.totals l) (R.number l)) coord gap) [] first (station_of spawner.old)
         → IsTurned (searched (search_tree P.Problem problem.now) (T.join tally.now) (T.none tally.now) (T.of tally.now)
-        (λ l. log_view (R.told l) (R.totals l) (R.number l)) coord 0) first (station_of spawner.new) result }
+        (λ l. log_view (R.told l) (R.totals l) (R.number l)) coord gap) first (station_of spawner.new) result }
     ensures fits { T.fits tally.now spawner.new.hand.sum }
     ensures problem { spawner.new.outlet.problem ≡ spawner.old.outlet.problem }
 {
@@ -173,7 +181,7 @@ fn take_turn<P: Problem, T: Tally<P::Node>, R: Recorder, G: Gate, H: Threads + W
         Take::Task(task) => {
             *taken = taken.saturating_add(1);
             gate.at(rt, spawner.number, *taken);
-            task_turn(alloc, problem, tally, coord, best, task, spawner)
+            task_turn(alloc, problem, tally, coord, gap, best, task, spawner)
         }
         Take::Empty => {
             if spawner.outlet.load() == 0 {
@@ -206,7 +214,7 @@ pub(crate) fn spawn_worker<
     requires root { P.sound problem.now (P.root problem.now) }
     requires coord { IsCoord coord }
     requires spawns { Spawns coord }
-    requires gap { shared.now.gap ≡ 0 }
+    requires gap { shared.now.gap ≤ 1099511627774 }
     requires ready { IsReady (T.fits tally.now) (members_of (search_tree P.Problem problem.now)) shared.now station }
     ensures report { IsReport (searched (search_tree P.Problem problem.now) (T.join tally.now) (T.none tally.now) (T.of tally.now)
         (λ l. log_view (R.told l) (R.totals l) (R.number l)) coord shared.now.gap) station result }
@@ -245,6 +253,7 @@ pub(crate) fn spawn_worker<
             problem,
             tally,
             coord,
+            shared.gap,
             &shared.best,
             gate,
             &mut taken,

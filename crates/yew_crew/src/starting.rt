@@ -170,14 +170,17 @@ fn put_root<P: Problem>(
     Ok(())
 }
 
-// What the workers share, with the seats of all. The root's task is counted as made before there is a second worker.
+// What the workers share, with the seats of all, where this gap is permitted. The root's task is counted as made before
+// there is a second worker.
 fn make_shared<P: Problem>(
     alloc: Global,
     problem: &P,
+    gap: u64,
     workers: u32,
 ) -> Result<(Shared<P::Node>, Seats<P::Node>), Memory>
     requires { (1 ≤ workers) × (workers ≤ 64) }
-    ensures { IfOk result (λ r. IsBeginning (members_of (search_tree P.Problem problem.now)) workers r.0 r.1) }
+    ensures beginning { IfOk result (λ r. IsBeginning (members_of (search_tree P.Problem problem.now)) workers r.0 r.1) }
+    ensures gap { IfOk result (λ r. r.0.gap ≡ gap) }
 {
     let (best, best_seat) = Best::new(alloc, workers)?;
     let (tasks, mut task_seat) = Open::new(alloc, workers)?;
@@ -189,7 +192,7 @@ fn make_shared<P: Problem>(
         pool,
         mail,
         tasks,
-        gap: 0,
+        gap,
     };
     let seats = Seats {
         best: best_seat,
@@ -232,7 +235,7 @@ fn make_stations<P: Problem, T: Tally<P::Node>, R: Recorder>(
     Ok(stations)
 }
 
-/// Makes a crew of 1 to 64 workers. The root's task is made, and the first worker's pass has put it.
+/// Makes a crew of 1 to 64 workers, which permits this gap. The root's task is made, and the first worker's pass has put it.
 ///
 /// # Errors
 ///
@@ -241,13 +244,15 @@ pub(crate) fn make_crew<P: Problem, T: Tally<P::Node>, R: Recorder>(
     alloc: Global,
     problem: &P,
     tally: &T,
+    gap: u64,
     workers: u32,
 ) -> Result<Crew<P::Node, T::Sum, R>, Memory>
     requires root { P.sound problem.now (P.root problem.now) }
     requires workers { (1 ≤ workers) × (workers ≤ 64) }
-    ensures { IfOk result (λ crew. IsCrew (members_of (search_tree P.Problem problem.now)) (T.none tally.now) (λ log. log_view (R.told log) (R.totals log) (R.number log)) crew.shared workers crew.stations.items) }
+    ensures crew { IfOk result (λ crew. IsCrew (members_of (search_tree P.Problem problem.now)) (T.none tally.now) (λ log. log_view (R.told log) (R.totals log) (R.number log)) crew.shared workers crew.stations.items) }
+    ensures gap { IfOk result (λ crew. crew.shared.gap ≡ gap) }
 {
-    let (shared, seats) = make_shared(alloc, problem, workers)?;
+    let (shared, seats) = make_shared(alloc, problem, gap, workers)?;
     let stations = make_stations(alloc, problem, tally, &shared, seats, workers)?;
     Ok(Crew { shared, stations })
 }
@@ -269,13 +274,13 @@ pub(crate) fn start<P: Problem, T: Tally<P::Node>, R: Recorder, G: Gate, H: Thre
 ) -> Result<Vec<Report<P::Node, T::Sum, R>>, Memory>
     requires root { P.sound problem.now (P.root problem.now) }
     requires coord { IsCoord coord }
-    requires gap { shared.now.gap ≡ 0 }
+    requires gap { shared.now.gap ≤ 1099511627774 }
     requires ready { AllByRecursion (IsReady (T.fits tally.now) (members_of (search_tree P.Problem problem.now)) shared.now) stations.items }
     ensures reports { IfOk result (λ reports. AreReports (searched (search_tree P.Problem problem.now) (T.join tally.now) (T.none tally.now) (T.of tally.now) (λ log. log_view (R.told log) (R.totals log) (R.number log)) coord shared.now.gap) stations.items reports.items) }
     ensures fits { IfOk result (λ reports. AllByRecursion (λ (r : ReportValue P.Node T.Sum R). T.fits tally.now r.station.hand.sum) reports.items) }
 {
     let work = |station: Station<P::Node, T::Sum, R>| -> Report<P::Node, T::Sum, R>
-        requires { IsSync H.row × P.sound problem.now (P.root problem.now) × IsCoord coord × (shared.now.gap ≡ 0) × IsReady (T.fits tally.now) (members_of (search_tree P.Problem problem.now)) shared.now station }
+        requires { IsSync H.row × P.sound problem.now (P.root problem.now) × IsCoord coord × (shared.now.gap ≤ 1099511627774) × IsReady (T.fits tally.now) (members_of (search_tree P.Problem problem.now)) shared.now station }
         ensures { IsReport (searched (search_tree P.Problem problem.entry.now) (T.join tally.entry.now) (T.none tally.entry.now) (T.of tally.entry.now) (λ log. log_view (R.told log) (R.totals log) (R.number log)) coord shared.entry.now.gap) station result × T.fits tally.entry.now result.station.hand.sum }
     { worker(rt, alloc, problem, tally, coord, shared, gate, station) };
     let reports = map_vec(rt, stations, &work)?;
@@ -289,7 +294,7 @@ pub(crate) struct Worked<N, S, R> {
     pub reports: Vec<Report<N, S, R>>,
 }
 
-/// Makes a crew of 1 to 64 workers and lets it work.
+/// Makes a crew of 1 to 64 workers, which permits this gap, and lets it work.
 ///
 /// # Errors
 ///
@@ -305,17 +310,20 @@ pub(crate) fn run_crew<
     alloc: Global,
     problem: &P,
     tally: &T,
+    gap: u64,
     coord: Coord,
     workers: u32,
     gate: &G,
 ) -> Result<Worked<P::Node, T::Sum, R>, Memory>
     requires root { P.sound problem.now (P.root problem.now) }
     requires workers { (1 ≤ workers) × (workers ≤ 64) }
+    requires gap { gap ≤ 1099511627774 }
     requires coord { IsCoord coord }
-    ensures { IfOk result (λ worked. HasWorked (searched (search_tree P.Problem problem.now) (T.join tally.now) (T.none tally.now) (T.of tally.now) (λ log. log_view (R.told log) (R.totals log) (R.number log)) coord 0)
+    ensures worked { IfOk result (λ worked. HasWorked (searched (search_tree P.Problem problem.now) (T.join tally.now) (T.none tally.now) (T.of tally.now) (λ log. log_view (R.told log) (R.totals log) (R.number log)) coord worked.shared.gap)
         (T.fits tally.now) (members_of (search_tree P.Problem problem.now)) workers worked.shared worked.reports.items) }
+    ensures gap { IfOk result (λ worked. worked.shared.gap ≡ gap) }
 {
-    let Crew { shared, stations } = make_crew(alloc, problem, tally, workers)?;
+    let Crew { shared, stations } = make_crew(alloc, problem, tally, gap, workers)?;
     let reports = start(rt, alloc, problem, tally, coord, &shared, gate, stations)?;
     Ok(Worked { shared, reports })
 }

@@ -60,21 +60,23 @@ fn task_round<P: Problem, T: Tally<P::Node>, R: Recorder>(
     problem: &P,
     tally: &T,
     chunk: Chunk,
+    gap: u64,
     best: &Best,
     task: Task<P::Node>,
     thief: &mut Thief<Handing<'_, P>, P::Node, T::Sum, R>,
 ) -> Round
     requires root { P.sound problem.now (P.root problem.now) }
     requires task { IsTask P.Problem problem.now task.path.numbers task.node }
+    requires gap { gap ≤ 1099511627774 }
     requires seat { thief.old.best.best ≡ best.now }
     requires outlet { thief.old.outlet.problem ≡ problem.now }
     requires space { 65535 ≤ thief.old.hand.path.space }
     requires fits { T.fits tally.now thief.old.hand.sum }
     ensures round { (rest : List (List ℕ)) (first : StationValue P.Node T.Sum R) → T.fits tally.now first.hand.sum
         → IsWorking (searched (search_tree P.Problem problem.now) (T.join tally.now) (T.none tally.now) (T.of tally.now)
-        (λ l. log_view (R.told l) (R.totals l) (R.number l)) (Steal chunk) 0) (task.path.numbers ∷ rest) first (thief_station thief.old)
+        (λ l. log_view (R.told l) (R.totals l) (R.number l)) (Steal chunk) gap) (task.path.numbers ∷ rest) first (thief_station thief.old)
         → IsRound (searched (search_tree P.Problem problem.now) (T.join tally.now) (T.none tally.now) (T.of tally.now)
-        (λ l. log_view (R.told l) (R.totals l) (R.number l)) (Steal chunk) 0) rest first (thief_station thief.new) result }
+        (λ l. log_view (R.told l) (R.totals l) (R.number l)) (Steal chunk) gap) rest first (thief_station thief.new) result }
     ensures fits { T.fits tally.now thief.new.hand.sum }
     ensures problem { thief.new.outlet.problem ≡ thief.old.outlet.problem }
     ensures ask { thief.new.outlet.seat.ask ≡ thief.old.outlet.seat.ask }
@@ -87,6 +89,7 @@ fn task_round<P: Problem, T: Tally<P::Node>, R: Recorder>(
         best,
         &mut thief.best,
         chunk,
+        gap,
         &mut thief.outlet,
         tally,
         &mut thief.hand,
@@ -106,6 +109,7 @@ fn idle_round<P: Problem, T: Tally<P::Node>, R: Recorder, H: Wait>(
     problem: &P,
     tally: &T,
     chunk: Chunk,
+    gap: u64,
     gift: &mut Vec<Task<P::Node>>,
     thief: &mut Thief<Handing<'_, P>, P::Node, T::Sum, R>,
 ) -> Round
@@ -115,9 +119,9 @@ fn idle_round<P: Problem, T: Tally<P::Node>, R: Recorder, H: Wait>(
     requires no_ask { thief.old.outlet.seat.ask ≡ Nowhere }
     ensures round { (first : StationValue P.Node T.Sum R)
         → IsWorking (searched (search_tree P.Problem problem.now) (T.join tally.now) (T.none tally.now) (T.of tally.now)
-        (λ l. log_view (R.told l) (R.totals l) (R.number l)) (Steal chunk) 0) [] first (thief_station thief.old)
+        (λ l. log_view (R.told l) (R.totals l) (R.number l)) (Steal chunk) gap) [] first (thief_station thief.old)
         → IsRound (searched (search_tree P.Problem problem.now) (T.join tally.now) (T.none tally.now) (T.of tally.now)
-        (λ l. log_view (R.told l) (R.totals l) (R.number l)) (Steal chunk) 0) (paths_of gift.new.items) first (thief_station thief.new) result }
+        (λ l. log_view (R.told l) (R.totals l) (R.number l)) (Steal chunk) gap) (paths_of gift.new.items) first (thief_station thief.new) result }
     ensures gift { AllByRecursion (λ task. IsTask P.Problem problem.now task.path.numbers task.node) gift.new.items }
     ensures hand { thief.new.hand ≡ thief.old.hand }
     ensures problem { thief.new.outlet.problem ≡ thief.old.outlet.problem }
@@ -126,6 +130,7 @@ fn idle_round<P: Problem, T: Tally<P::Node>, R: Recorder, H: Wait>(
     let _ = problem;
     let _ = tally;
     let _ = chunk;
+    let _ = gap;
     match thief.outlet.idle(rt, thief.number) {
         Answer::Gift(mut tasks) => {
             tasks.reverse();
@@ -145,6 +150,7 @@ fn next_round<P: Problem, T: Tally<P::Node>, R: Recorder, G: Gate, H: Threads + 
     problem: &P,
     tally: &T,
     chunk: Chunk,
+    gap: u64,
     best: &Best,
     gate: &G,
     taken: &mut u64,
@@ -153,6 +159,7 @@ fn next_round<P: Problem, T: Tally<P::Node>, R: Recorder, G: Gate, H: Threads + 
 ) -> Round
     requires root { P.sound problem.now (P.root problem.now) }
     requires gift { AllByRecursion (λ task. IsTask P.Problem problem.now task.path.numbers task.node) gift.old.items }
+    requires gap { gap ≤ 1099511627774 }
     requires seat { thief.old.best.best ≡ best.now }
     requires outlet { thief.old.outlet.problem ≡ problem.now }
     requires number { first_of thief.old.outlet.seat.numbers ≡ thief.old.number }
@@ -161,9 +168,9 @@ fn next_round<P: Problem, T: Tally<P::Node>, R: Recorder, G: Gate, H: Threads + 
     requires fits { T.fits tally.now thief.old.hand.sum }
     ensures round { (first : StationValue P.Node T.Sum R) → T.fits tally.now first.hand.sum
         → IsWorking (searched (search_tree P.Problem problem.now) (T.join tally.now) (T.none tally.now) (T.of tally.now)
-        (λ l. log_view (R.told l) (R.totals l) (R.number l)) (Steal chunk) 0) (paths_of gift.old.items) first (thief_station thief.old)
+        (λ l. log_view (R.told l) (R.totals l) (R.number l)) (Steal chunk) gap) (paths_of gift.old.items) first (thief_station thief.old)
         → IsRound (searched (search_tree P.Problem problem.now) (T.join tally.now) (T.none tally.now) (T.of tally.now)
-        (λ l. log_view (R.told l) (R.totals l) (R.number l)) (Steal chunk) 0) (paths_of gift.new.items) first (thief_station thief.new) result }
+        (λ l. log_view (R.told l) (R.totals l) (R.number l)) (Steal chunk) gap) (paths_of gift.new.items) first (thief_station thief.new) result }
     ensures gift { AllByRecursion (λ task. IsTask P.Problem problem.now task.path.numbers task.node) gift.new.items }
     ensures fits { T.fits tally.now thief.new.hand.sum }
     ensures problem { thief.new.outlet.problem ≡ thief.old.outlet.problem }
@@ -176,9 +183,9 @@ fn next_round<P: Problem, T: Tally<P::Node>, R: Recorder, G: Gate, H: Threads + 
         Some(task) => {
             *taken = taken.saturating_add(1);
             gate.at(rt, thief.number, *taken);
-            task_round(alloc, problem, tally, chunk, best, task, thief)
+            task_round(alloc, problem, tally, chunk, gap, best, task, thief)
         }
-        None => idle_round(rt, problem, tally, chunk, gift, thief),
+        None => idle_round(rt, problem, tally, chunk, gap, gift, thief),
     }
 }
 
@@ -190,6 +197,7 @@ fn first_round<P: Problem, T: Tally<P::Node>, R: Recorder, G: Gate, H: Threads +
     problem: &P,
     tally: &T,
     chunk: Chunk,
+    gap: u64,
     best: &Best,
     pool: &Pool<P::Node>,
     gate: &G,
@@ -197,6 +205,7 @@ fn first_round<P: Problem, T: Tally<P::Node>, R: Recorder, G: Gate, H: Threads +
     thief: &mut Thief<Handing<'_, P>, P::Node, T::Sum, R>,
 ) -> Round
     requires root { P.sound problem.now (P.root problem.now) }
+    requires gap { gap ≤ 1099511627774 }
     requires seat { thief.old.best.best ≡ best.now }
     requires pool { thief.old.pool.pool ≡ pool.now }
     requires members { thief.old.pool.members ≡ Some (members_of (search_tree P.Problem problem.now)) }
@@ -205,9 +214,9 @@ fn first_round<P: Problem, T: Tally<P::Node>, R: Recorder, G: Gate, H: Threads +
     requires fits { T.fits tally.now thief.old.hand.sum }
     ensures round { (first : StationValue P.Node T.Sum R) → T.fits tally.now first.hand.sum
         → IsWorking (searched (search_tree P.Problem problem.now) (T.join tally.now) (T.none tally.now) (T.of tally.now)
-        (λ l. log_view (R.told l) (R.totals l) (R.number l)) (Steal chunk) 0) [] first (thief_station thief.old)
+        (λ l. log_view (R.told l) (R.totals l) (R.number l)) (Steal chunk) gap) [] first (thief_station thief.old)
         → IsRound (searched (search_tree P.Problem problem.now) (T.join tally.now) (T.none tally.now) (T.of tally.now)
-        (λ l. log_view (R.told l) (R.totals l) (R.number l)) (Steal chunk) 0) [] first (thief_station thief.new) result }
+        (λ l. log_view (R.told l) (R.totals l) (R.number l)) (Steal chunk) gap) [] first (thief_station thief.new) result }
     ensures fits { T.fits tally.now thief.new.hand.sum }
     ensures problem { thief.new.outlet.problem ≡ thief.old.outlet.problem }
     ensures ask { thief.new.outlet.seat.ask ≡ thief.old.outlet.seat.ask }
@@ -216,7 +225,7 @@ fn first_round<P: Problem, T: Tally<P::Node>, R: Recorder, G: Gate, H: Threads +
         Take::Task(task) => {
             *taken = taken.saturating_add(1);
             gate.at(rt, thief.number, *taken);
-            task_round(alloc, problem, tally, chunk, best, task, thief)
+            task_round(alloc, problem, tally, chunk, gap, best, task, thief)
         }
         Take::Empty => Round::Idle,
     }
@@ -235,11 +244,12 @@ fn all_rounds<P: Problem, T: Tally<P::Node>, R: Recorder, G: Gate, H: Threads + 
     thief: &mut Thief<Handing<'_, P>, P::Node, T::Sum, R>,
 ) -> End
     requires root { P.sound problem.now (P.root problem.now) }
+    requires gap { shared.now.gap ≤ 1099511627774 }
     requires ready { IsReady (T.fits tally.now) (members_of (search_tree P.Problem problem.now)) shared.now (thief_station thief.old) }
     requires outlet { thief.old.outlet.problem ≡ problem.now }
     ensures same { IsSameStation (thief_station thief.old) (thief_station thief.new) }
     ensures end { IsEnd (searched (search_tree P.Problem problem.now) (T.join tally.now) (T.none tally.now) (T.of tally.now)
-        (λ l. log_view (R.told l) (R.totals l) (R.number l)) (Steal chunk) 0) (thief_station thief.old) (thief_station thief.new) result }
+        (λ l. log_view (R.told l) (R.totals l) (R.number l)) (Steal chunk) shared.now.gap) (thief_station thief.old) (thief_station thief.new) result }
     ensures fits { T.fits tally.now thief.new.hand.sum }
 {
     let mut taken = 0;
@@ -249,6 +259,7 @@ fn all_rounds<P: Problem, T: Tally<P::Node>, R: Recorder, G: Gate, H: Threads + 
         problem,
         tally,
         chunk,
+        shared.gap,
         &shared.best,
         &shared.pool,
         gate,
@@ -266,6 +277,7 @@ fn all_rounds<P: Problem, T: Tally<P::Node>, R: Recorder, G: Gate, H: Threads + 
             problem,
             tally,
             chunk,
+            shared.gap,
             &shared.best,
             gate,
             &mut taken,
@@ -300,7 +312,7 @@ pub(crate) fn steal_worker<
     station: Station<P::Node, T::Sum, R>,
 ) -> Report<P::Node, T::Sum, R>
     requires root { P.sound problem.now (P.root problem.now) }
-    requires gap { shared.now.gap ≡ 0 }
+    requires gap { shared.now.gap ≤ 1099511627774 }
     requires ready { IsReady (T.fits tally.now) (members_of (search_tree P.Problem problem.now)) shared.now station }
     ensures report { IsReport (searched (search_tree P.Problem problem.now) (T.join tally.now) (T.none tally.now) (T.of tally.now)
         (λ l. log_view (R.told l) (R.totals l) (R.number l)) (Steal chunk) shared.now.gap) station result }

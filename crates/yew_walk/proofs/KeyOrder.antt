@@ -1,17 +1,11 @@
 -- Keys and held values keep the order of worths.
-use Rattle.std.proofs.Common.{◌≡◌, ℕ, ◌+◌, ◌<◌, ◌≤◌, refl, sym, arith}
+use Rattle.std.proofs.Common.{◌≡◌, ℕ, ◌+◌, ◌<◌, ◌≤◌, ◌^◌, refl, sym, arith}
 use Rattle.std.proofs.lemmas.Bool.Decides.{nat_tests}
 use Rattle.yew_log.specs.Attained.{limit}
 use Rattle.yew_log.specs.HeldValues.{plain, IsUncut}
 use Rattle.yew_walk.specs.declared.keying.Keying.{Keying}
 use Rattle.yew_walk.specs.declared.keying.Keying.TheVariants.{Plain, Ranked, Gap}
-use Rattle.yew_walk.specs.Keys.{key_of, held_of, limit_of, kind_of, gap_in}
-
--- a key is below another where its worth is
-pub key_of-reflects : (keying : Keying) (a b word : ℕ) → key_of keying a ≤ word → word < key_of keying b → a < b
-key_of-reflects Plain a b word low high = omega arith
-key_of-reflects (Ranked rank) a b word low high = omega arith
-key_of-reflects (Gap gap) a b word low high = omega arith
+use Rattle.yew_walk.specs.Keys.{IsKeying, key_of, held_of, limit_of, kind_of, gap_in}
 
 -- a greater word holds at least as much
 pub held_of-grows : (keying : Keying) (a b : ℕ) → a ≤ b → held_of keying a ≤ held_of keying b
@@ -29,20 +23,16 @@ held_of-key_of (Gap gap) worth word le = le
 pub limit-none : (held : ℕ) → limit 0 held ≡ held
 limit-none held = grind (arith, nat_tests)
 
--- with any gap, a held value of 0 permits to cut a bound of 0 alone
-pub limit-nothing : (gap : ℕ) → limit gap 0 ≡ 0
-limit-nothing gap = refl
-
 -- a greater held value permits to cut as much
 pub limit-grows : (gap a b : ℕ) → a ≤ b → limit gap a ≤ limit gap b
 limit-grows gap a b le = grind (arith, nat_tests)
 
--- what is permitted is at least what is held, and no more than the gap above it
-pub limit-most : (gap held : ℕ) → limit gap held ≤ held + gap
-limit-most gap held = grind (arith, nat_tests)
-
+-- what is permitted is what is held, and no more than the gap above it
 pub limit-least : (gap held : ℕ) → held ≤ limit gap held
 limit-least gap held = grind (arith, nat_tests)
+
+pub limit-most : (gap held : ℕ) → limit gap held ≤ held + gap
+limit-most gap held = grind (arith, nat_tests)
 
 -- a bound whose key is above what the word permits to cut is not cut by what the word holds
 pub uncut-above : (keying : Keying) (bound word : ℕ) → limit_of keying word < key_of keying bound → IsUncut (kind_of keying) (gap_in keying) (held_of keying word) bound
@@ -80,3 +70,9 @@ pub limit_of-plain : (keying : Keying) (word : ℕ) → kind_of keying ≡ plain
 limit_of-plain Plain word is = sym (limit-none word)
 limit_of-plain (Ranked rank) word is = absurd (cc)
 limit_of-plain (Gap gap) word is = refl
+
+-- the key of a worth or a bound is a word
+pub key_of-small : (keying : Keying) (worth : ℕ) → IsKeying keying → worth < 2 ^ 40 → key_of keying worth ≤ 18446744073709551615
+key_of-small Plain worth is small = omega (arith, small)
+key_of-small (Ranked rank) worth is small = omega (arith, is, small)
+key_of-small (Gap gap) worth is small = omega (arith, small)

@@ -1,5 +1,6 @@
 pub mod AloneRuns
 pub mod AuditFulls
+pub mod BestFinds
 pub mod BestVisits
 pub mod Bests
 pub mod DealtLevels
@@ -7,6 +8,8 @@ pub mod Endings
 pub mod FirstFinds
 pub mod KeyOrder
 pub mod LowestLevels
+pub mod NearAnswers
+pub mod NearBest
 pub mod Noted
 pub mod OpenPaths
 pub mod OutletCalls

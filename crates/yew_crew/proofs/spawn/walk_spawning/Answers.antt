@@ -10,7 +10,7 @@ pub returns-clause-step : goal.returns-clause-step
 returns-clause-step g c = λ number mail.
     spawn-step g.P.Problem c.args.problem.now (g.T.Tally.join c.args.tally.now) (g.T.Tally.none c.args.tally.now) (g.T.Tally.of c.args.tally.now)
     (λ l. log_view (g.R.Recorder.told l) (g.R.Recorder.totals l) (g.R.Recorder.number l))
-    c.args.coord g.Q.Policy.meaning c.args.task.path.numbers _ number mail c.args.seat.now c.walk.new.seat c.args.hand.now c.walk.new.hand c.args.policy.now
+    c.args.coord c.args.gap g.Q.Policy.meaning c.args.task.path.numbers _ number mail c.args.seat.now c.walk.new.seat c.args.hand.now c.walk.new.hand c.args.policy.now
     c.walk.new.policy c.args.outlet.now c.walk.new.outlet c.ended.new.self _ _ c.args.log.now c.walk.new.log
     (g.P.Problem.ranked c.args.problem.now) c.requires.root (subst IsSome (sym c.requires.task.found) refl) c.requires.spawns c.requires.groups
     (sends-spawned (search_tree g.P.Problem c.args.problem.now) c.args.coord c.requires.spawns) c.in-Ok.ensures.walked c.in-Ok.ensures.kept
@@ -21,6 +21,6 @@ pub returns-in-Err-clause-refused : goal.returns-in-Err-clause-refused
 returns-in-Err-clause-refused g c = λ number mail.
     spawn-broken g.P.Problem c.args.problem.now (g.T.Tally.join c.args.tally.now) (g.T.Tally.none c.args.tally.now) (g.T.Tally.of c.args.tally.now)
     (λ l. log_view (g.R.Recorder.told l) (g.R.Recorder.totals l) (g.R.Recorder.number l))
-    c.args.coord g.Q.Policy.meaning c.args.task.path.numbers c.in-Err.fault number mail c.args.seat.now c.walk.new.seat c.args.hand.now c.walk.new.hand
+    c.args.coord c.args.gap g.Q.Policy.meaning c.args.task.path.numbers c.in-Err.fault number mail c.args.seat.now c.walk.new.seat c.args.hand.now c.walk.new.hand
     c.args.policy.now c.walk.new.policy c.args.outlet.now c.walk.new.outlet _ _ c.args.log.now c.walk.new.log
     c.in-Err.ensures.refused c.in-Err.ensures.kept c.in-Err.ensures.seat c.in-Err.ensures.share

@@ -15,7 +15,7 @@ loop-init g c =
       fits = ready.fits_sum;
       working = work-begins (searched (search_tree g.P.Problem c.args.problem.now) (g.T.Tally.join c.args.tally.now) (g.T.Tally.none c.args.tally.now)
           (g.T.Tally.of c.args.tally.now)
-          (λ l. log_view (g.R.Recorder.told l) (g.R.Recorder.totals l) (g.R.Recorder.number l)) c.args.coord 0) (g.T.Tally.monoid c.args.tally.now)
+          (λ l. log_view (g.R.Recorder.told l) (g.R.Recorder.totals l) (g.R.Recorder.number l)) c.args.coord c.args.shared.now.gap) (g.T.Tally.monoid c.args.tally.now)
           c.args.station ready.fits_sum ready.space;
     }
 
@@ -51,5 +51,5 @@ pub returns-in-Ended-clause-report : goal.returns-in-Ended-clause-report
 returns-in-Ended-clause-report g c =
     reported (search_tree g.P.Problem c.args.problem.now) (g.T.Tally.join c.args.tally.now) (g.T.Tally.none c.args.tally.now) (g.T.Tally.of c.args.tally.now)
     (λ l. log_view (g.R.Recorder.told l) (g.R.Recorder.totals l) (g.R.Recorder.number l)) c.args.coord
-    c.args.shared.now.gap c.requires.gap c.args.station (station_of c.take_turn.new.spawner) c.in-Ended.end c.report.result c.report.ensures
+    c.args.shared.now.gap c.args.station (station_of c.take_turn.new.spawner) c.in-Ended.end c.report.result c.report.ensures
     (c.in-Ended.ensures.turned c.args.station c.requires.ready.fits_sum c.loop.invariant.working)

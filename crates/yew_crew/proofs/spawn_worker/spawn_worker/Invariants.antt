@@ -13,5 +13,5 @@ invariant-loop g l =
       problem : l.spawner.outlet.problem ≡ l.problem;
       fits : g.T.Tally.fits l.tally l.spawner.hand.sum;
       working : IsWorking (searched (search_tree g.P.Problem l.problem) (g.T.Tally.join l.tally) (g.T.Tally.none l.tally) (g.T.Tally.of l.tally)
-          (λ x. log_view (g.R.Recorder.told x) (g.R.Recorder.totals x) (g.R.Recorder.number x)) l.coord 0) [] l.fn.station (station_of l.spawner);
+          (λ x. log_view (g.R.Recorder.told x) (g.R.Recorder.totals x) (g.R.Recorder.number x)) l.coord l.shared.gap) [] l.fn.station (station_of l.spawner);
     }

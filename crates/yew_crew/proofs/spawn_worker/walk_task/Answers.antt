@@ -23,28 +23,28 @@ walk_spawning-requires-in-Budget-clause-groups g c κs within = λ answers body 
 pub returns-in-Depth-clause-step : goal.returns-in-Depth-clause-step
 returns-in-Depth-clause-step g c =
     step-by (search_tree g.P.Problem c.args.problem.now) (g.T.Tally.join c.args.tally.now) (g.T.Tally.none c.args.tally.now) (g.T.Tally.of c.args.tally.now)
-    (λ l. log_view (g.R.Recorder.told l) (g.R.Recorder.totals l) (g.R.Recorder.number l)) c.args.coord (Depth c.in-Depth.depth) c.args.task.path.numbers
+    (λ l. log_view (g.R.Recorder.told l) (g.R.Recorder.totals l) (g.R.Recorder.number l)) c.args.coord (Depth c.in-Depth.depth) c.args.gap c.args.task.path.numbers
     (station_of c.args.spawner.now) _ c.walk_spawning.result c.in-Depth.is
     (OnOk-map c.walk_spawning.result (λ step. step c.args.spawner.now.number c.args.spawner.now.mail) c.walk_spawning.ensures.step)
 
 pub returns-in-Depth-clause-refused : goal.returns-in-Depth-clause-refused
 returns-in-Depth-clause-refused g c =
     broken-by (search_tree g.P.Problem c.args.problem.now) (g.T.Tally.join c.args.tally.now) (g.T.Tally.none c.args.tally.now) (g.T.Tally.of c.args.tally.now)
-    (λ l. log_view (g.R.Recorder.told l) (g.R.Recorder.totals l) (g.R.Recorder.number l)) c.args.coord (Depth c.in-Depth.depth) c.args.task.path.numbers
+    (λ l. log_view (g.R.Recorder.told l) (g.R.Recorder.totals l) (g.R.Recorder.number l)) c.args.coord (Depth c.in-Depth.depth) c.args.gap c.args.task.path.numbers
     (station_of c.args.spawner.now) _ c.walk_spawning.result c.in-Depth.is
     (IfErr-map c.walk_spawning.result (λ fault step. step c.args.spawner.now.number c.args.spawner.now.mail) c.walk_spawning.ensures.refused)
 
 pub returns-in-Budget-clause-step : goal.returns-in-Budget-clause-step
 returns-in-Budget-clause-step g c =
     step-by (search_tree g.P.Problem c.args.problem.now) (g.T.Tally.join c.args.tally.now) (g.T.Tally.none c.args.tally.now) (g.T.Tally.of c.args.tally.now)
-    (λ l. log_view (g.R.Recorder.told l) (g.R.Recorder.totals l) (g.R.Recorder.number l)) c.args.coord (Budget c.in-Budget.every) c.args.task.path.numbers
+    (λ l. log_view (g.R.Recorder.told l) (g.R.Recorder.totals l) (g.R.Recorder.number l)) c.args.coord (Budget c.in-Budget.every) c.args.gap c.args.task.path.numbers
     (station_of c.args.spawner.now) _ c.walk_spawning-in-Budget.result c.in-Budget.is
     (OnOk-map c.walk_spawning-in-Budget.result (λ step. step c.args.spawner.now.number c.args.spawner.now.mail) c.walk_spawning-in-Budget.ensures.step)
 
 pub returns-in-Budget-clause-refused : goal.returns-in-Budget-clause-refused
 returns-in-Budget-clause-refused g c =
     broken-by (search_tree g.P.Problem c.args.problem.now) (g.T.Tally.join c.args.tally.now) (g.T.Tally.none c.args.tally.now) (g.T.Tally.of c.args.tally.now)
-    (λ l. log_view (g.R.Recorder.told l) (g.R.Recorder.totals l) (g.R.Recorder.number l)) c.args.coord (Budget c.in-Budget.every) c.args.task.path.numbers
+    (λ l. log_view (g.R.Recorder.told l) (g.R.Recorder.totals l) (g.R.Recorder.number l)) c.args.coord (Budget c.in-Budget.every) c.args.gap c.args.task.path.numbers
     (station_of c.args.spawner.now) _ c.walk_spawning-in-Budget.result c.in-Budget.is
     (IfErr-map c.walk_spawning-in-Budget.result (λ fault step. step c.args.spawner.now.number c.args.spawner.now.mail)
     c.walk_spawning-in-Budget.ensures.refused)

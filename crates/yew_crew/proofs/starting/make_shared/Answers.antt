@@ -1,4 +1,4 @@
-use Rattle.std.proofs.Common.{◌≡◌, ◌+◌, ◌∙◌, ◌||◌, [], nat_lt, refl, ap, arith}
+use Rattle.std.proofs.Common.{◌≡◌, ◌+◌, ◌∙◌, ◌||◌, [], nat_lt, ap, arith}
 use Rattle.yew_laws.specs.SearchTree.{search_tree}
 use Rattle.yew_laws.specs.Tasks.{members_of}
 use Rattle.yew_crew.specs.OpenSeats.{OpenSeatView}
@@ -6,8 +6,8 @@ use Rattle.yew_crew.specs.Starting.{new_put}
 use Rattle.yew_crew.proofs.Seatings.{passes-from}
 use Rattle.yew_crew.proofs.starting.make_shared.Goals as goal
 
-pub returns : goal.returns
-returns g c =
+pub returns-clause-beginning : goal.returns-clause-beginning
+returns-clause-beginning g c =
     let members = members_of (search_tree g.P.Problem c.args.problem.now) in
     let pool = c.in_ok-pool.pool in
     let count = c.in_ok-pool.ensures.count in
@@ -22,5 +22,4 @@ returns g c =
       deques = c.in_ok-pool.ensures.pool;
       mailboxes = c.in_ok-mail.ensures.mail;
       open_seats = c.in_ok-tasks.ensures.tasks;
-      gap = refl;
     }

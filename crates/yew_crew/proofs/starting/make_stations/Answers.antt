@@ -34,5 +34,4 @@ returns g c =
       deques = b.deques;
       mailboxes = b.mailboxes;
       open_seats = b.open_seats;
-      gap = b.gap;
     }

@@ -16,13 +16,15 @@ pub returns-in-Ended-clause-same : goal.returns-in-Ended-clause-same
 returns-in-Ended-clause-same g c =
     (c.in-Ended.ensures.round (thief_station c.args.thief.now) c.requires.ready.fits_sum
     (work-begins (searched (search_tree g.P.Problem c.args.problem.now) (g.T.Tally.join c.args.tally.now) (g.T.Tally.none c.args.tally.now) (g.T.Tally.of c.args.tally.now)
-    (λ l. log_view (g.R.Recorder.told l) (g.R.Recorder.totals l) (g.R.Recorder.number l)) (Steal c.args.chunk) 0) (g.T.Tally.monoid c.args.tally.now) (thief_station c.args.thief.now) c.requires.ready.fits_sum c.requires.ready.space)).0
+    (λ l. log_view (g.R.Recorder.told l) (g.R.Recorder.totals l) (g.R.Recorder.number l)) (Steal c.args.chunk) c.args.shared.now.gap) (g.T.Tally.monoid c.args.tally.now)
+    (thief_station c.args.thief.now) c.requires.ready.fits_sum c.requires.ready.space)).0
 
 pub returns-in-Ended-clause-end : goal.returns-in-Ended-clause-end
 returns-in-Ended-clause-end g c =
     (c.in-Ended.ensures.round (thief_station c.args.thief.now) c.requires.ready.fits_sum
     (work-begins (searched (search_tree g.P.Problem c.args.problem.now) (g.T.Tally.join c.args.tally.now) (g.T.Tally.none c.args.tally.now) (g.T.Tally.of c.args.tally.now)
-    (λ l. log_view (g.R.Recorder.told l) (g.R.Recorder.totals l) (g.R.Recorder.number l)) (Steal c.args.chunk) 0) (g.T.Tally.monoid c.args.tally.now) (thief_station c.args.thief.now) c.requires.ready.fits_sum c.requires.ready.space)).1
+    (λ l. log_view (g.R.Recorder.told l) (g.R.Recorder.totals l) (g.R.Recorder.number l)) (Steal c.args.chunk) c.args.shared.now.gap) (g.T.Tally.monoid c.args.tally.now)
+    (thief_station c.args.thief.now) c.requires.ready.fits_sum c.requires.ready.space)).1
 
 pub loop-init : goal.loop-init
 loop-init g c =
@@ -31,10 +33,12 @@ loop-init g c =
       tt,
       tt,
       subst (λ items. IsWorking (searched (search_tree g.P.Problem c.args.problem.now) (g.T.Tally.join c.args.tally.now) (g.T.Tally.none c.args.tally.now) (g.T.Tally.of c.args.tally.now)
-          (λ l. log_view (g.R.Recorder.told l) (g.R.Recorder.totals l) (g.R.Recorder.number l)) (Steal c.args.chunk) 0) (paths_of items) first now) (sym c.new-gift.ensures.items)
+          (λ l. log_view (g.R.Recorder.told l) (g.R.Recorder.totals l) (g.R.Recorder.number l)) (Steal c.args.chunk) c.args.shared.now.gap) (paths_of items) first now) (sym c.new-gift.ensures.items)
           (goes-on (searched (search_tree g.P.Problem c.args.problem.now) (g.T.Tally.join c.args.tally.now) (g.T.Tally.none c.args.tally.now) (g.T.Tally.of c.args.tally.now)
-          (λ l. log_view (g.R.Recorder.told l) (g.R.Recorder.totals l) (g.R.Recorder.number l)) (Steal c.args.chunk) 0) [] first now c.first_round.result c.in_default.not-Ended (c.first_round.ensures.round first c.requires.ready.fits_sum (work-begins (searched (search_tree g.P.Problem c.args.problem.now) (g.T.Tally.join c.args.tally.now) (g.T.Tally.none c.args.tally.now) (g.T.Tally.of c.args.tally.now)
-          (λ l. log_view (g.R.Recorder.told l) (g.R.Recorder.totals l) (g.R.Recorder.number l)) (Steal c.args.chunk) 0) (g.T.Tally.monoid c.args.tally.now) (thief_station c.args.thief.now) c.requires.ready.fits_sum c.requires.ready.space))),
+          (λ l. log_view (g.R.Recorder.told l) (g.R.Recorder.totals l) (g.R.Recorder.number l)) (Steal c.args.chunk) c.args.shared.now.gap) [] first now c.first_round.result c.in_default.not-Ended
+          (c.first_round.ensures.round first c.requires.ready.fits_sum (work-begins (searched (search_tree g.P.Problem c.args.problem.now) (g.T.Tally.join c.args.tally.now) (g.T.Tally.none c.args.tally.now) (g.T.Tally.of c.args.tally.now)
+          (λ l. log_view (g.R.Recorder.told l) (g.R.Recorder.totals l) (g.R.Recorder.number l)) (Steal c.args.chunk) c.args.shared.now.gap) (g.T.Tally.monoid c.args.tally.now)
+          (thief_station c.args.thief.now) c.requires.ready.fits_sum c.requires.ready.space))),
       subst (AllByRecursion (λ (task : Task _). IsTask g.P.Problem c.args.problem.now task.path.numbers task.node)) (sym c.new-gift.ensures.items) tt,
       c.first_round.ensures.problem ∙ c.requires.outlet,
       c.first_round.ensures.ask ∙ c.requires.ready.no_ask,

@@ -16,4 +16,4 @@ pub returns-in-Task-clause-round : goal.returns-in-Task-clause-round
 returns-in-Task-clause-round g c = λ first fits w.
     c.task_round.ensures.round [] first fits
     (work-took (searched (search_tree g.P.Problem c.args.problem.now) (g.T.Tally.join c.args.tally.now) (g.T.Tally.none c.args.tally.now) (g.T.Tally.of c.args.tally.now)
-    (λ l. log_view (g.R.Recorder.told l) (g.R.Recorder.totals l) (g.R.Recorder.number l)) (Steal c.args.chunk) 0) [] first (thief_station c.args.thief.now) c.take.new.pass c.in-Task.task w c.in-Task.ensures.task.0)
+    (λ l. log_view (g.R.Recorder.told l) (g.R.Recorder.totals l) (g.R.Recorder.number l)) (Steal c.args.chunk) c.args.gap) [] first (thief_station c.args.thief.now) c.take.new.pass c.in-Task.task w c.in-Task.ensures.task.0)

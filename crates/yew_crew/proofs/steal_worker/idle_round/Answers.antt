@@ -15,7 +15,7 @@ use Rattle.yew_crew.proofs.steal_worker.idle_round.Goals as goal
 pub returns-in-Gift-clause-round : goal.returns-in-Gift-clause-round
 returns-in-Gift-clause-round g c = λ first w.
     let s = searched (search_tree g.P.Problem c.args.problem.now) (g.T.Tally.join c.args.tally.now) (g.T.Tally.none c.args.tally.now) (g.T.Tally.of c.args.tally.now)
-    (λ l. log_view (g.R.Recorder.told l) (g.R.Recorder.totals l) (g.R.Recorder.number l)) (Steal c.args.chunk) 0 in
+    (λ l. log_view (g.R.Recorder.told l) (g.R.Recorder.totals l) (g.R.Recorder.number l)) (Steal c.args.chunk) c.args.gap in
     let thief = c.args.thief.now in
     let tasks = c.in-Gift.tasks.items in
     work-order s _ _ first (thief_station (record thief { outlet = c.idle.new.self })) (gift-bag tasks _ c.reverse.ensures.permutation)
@@ -30,11 +30,11 @@ returns-in-Gift-clause-gift g c =
 pub returns-in-Nothing-clause-round : goal.returns-in-Nothing-clause-round
 returns-in-Nothing-clause-round g c = λ first w.
     let s = searched (search_tree g.P.Problem c.args.problem.now) (g.T.Tally.join c.args.tally.now) (g.T.Tally.none c.args.tally.now) (g.T.Tally.of c.args.tally.now)
-    (λ l. log_view (g.R.Recorder.told l) (g.R.Recorder.totals l) (g.R.Recorder.number l)) (Steal c.args.chunk) 0 in
+    (λ l. log_view (g.R.Recorder.told l) (g.R.Recorder.totals l) (g.R.Recorder.number l)) (Steal c.args.chunk) c.args.gap in
     let thief = c.args.thief.now in
     subst (λ items. IsWorking s (paths_of items) first (thief_station (record thief { outlet = c.idle.new.self }))) (sym c.requires.gift) (work-idle s [] [] first thief c.idle.new.self c.in-Nothing.ensures.0 w)
 
 pub returns-in-Over-clause-round : goal.returns-in-Over-clause-round
 returns-in-Over-clause-round g c = λ first w.
     work-over (search_tree g.P.Problem c.args.problem.now) (g.T.Tally.join c.args.tally.now) (g.T.Tally.none c.args.tally.now) (g.T.Tally.of c.args.tally.now)
-    (λ l. log_view (g.R.Recorder.told l) (g.R.Recorder.totals l) (g.R.Recorder.number l)) (Steal c.args.chunk) c.in-Over.end first c.args.thief.now c.idle.new.self c.in-Over.ensures.0 c.in-Over.ensures.1 w
+    (λ l. log_view (g.R.Recorder.told l) (g.R.Recorder.totals l) (g.R.Recorder.number l)) (Steal c.args.chunk) c.args.gap c.in-Over.end first c.args.thief.now c.idle.new.self c.in-Over.ensures.0 c.in-Over.ensures.1 w

@@ -19,7 +19,7 @@ pub returns-then-stopped-clause-round : goal.returns-then-stopped-clause-round
 returns-then-stopped-clause-round g c = λ first fits w.
     let thief = c.args.thief.now in
     work-told (search_tree g.P.Problem c.args.problem.now) (g.T.Tally.join c.args.tally.now) (g.T.Tally.none c.args.tally.now) (g.T.Tally.of c.args.tally.now)
-    (λ l. log_view (g.R.Recorder.told l) (g.R.Recorder.totals l) (g.R.Recorder.number l)) (Steal c.args.chunk) (paths_of c.args.gift.now.items) first thief c.stopped.new.self
+    (λ l. log_view (g.R.Recorder.told l) (g.R.Recorder.totals l) (g.R.Recorder.number l)) (Steal c.args.chunk) c.args.gap (paths_of c.args.gift.now.items) first thief c.stopped.new.self
     (idle-loads thief.outlet c.stopped.new.self (record thief.outlet.tasks { saw = thief.outlet.tasks.saw || c.stopped.result }) c.stopped.ensures refl)
     (ap (λ (o : HandingView _ _). o.tasks.saw) c.stopped.ensures ∙ or_true thief.outlet.tasks.saw c.stopped.result c.if-stopped.true) w
 
@@ -31,7 +31,7 @@ task_round-requires-clause-task g c κs within =
 pub returns-in-Some-clause-round : goal.returns-in-Some-clause-round
 returns-in-Some-clause-round g c = λ first fits w.
     let s = searched (search_tree g.P.Problem c.args.problem.now) (g.T.Tally.join c.args.tally.now) (g.T.Tally.none c.args.tally.now) (g.T.Tally.of c.args.tally.now)
-    (λ l. log_view (g.R.Recorder.told l) (g.R.Recorder.totals l) (g.R.Recorder.number l)) (Steal c.args.chunk) 0 in
+    (λ l. log_view (g.R.Recorder.told l) (g.R.Recorder.totals l) (g.R.Recorder.number l)) (Steal c.args.chunk) c.args.gap in
     let thief = c.args.thief.now in
     c.task_round.ensures.round (paths_of c.pop.new.self.items) first fits
     (work-order s _ _ first (thief_station (record thief { outlet = c.stopped.new.self })) (last-bag c.args.gift.now.items c.pop.new.self.items c.in-Some.task c.in-Some.ensures.items)
@@ -40,7 +40,7 @@ returns-in-Some-clause-round g c = λ first fits w.
 pub returns-in-None-clause-round : goal.returns-in-None-clause-round
 returns-in-None-clause-round g c = λ first fits w.
     let s = searched (search_tree g.P.Problem c.args.problem.now) (g.T.Tally.join c.args.tally.now) (g.T.Tally.none c.args.tally.now) (g.T.Tally.of c.args.tally.now)
-    (λ l. log_view (g.R.Recorder.told l) (g.R.Recorder.totals l) (g.R.Recorder.number l)) (Steal c.args.chunk) 0 in
+    (λ l. log_view (g.R.Recorder.told l) (g.R.Recorder.totals l) (g.R.Recorder.number l)) (Steal c.args.chunk) c.args.gap in
     let thief = c.args.thief.now in
     let none = no_items c.args.gift.now.items (omega (arith, c.args.gift.now.ok.0, c.in-None.ensures.cases.0)) in
     c.idle_round.ensures.round first

@@ -1,5 +1,5 @@
 -- The cover of a tree and the causes of its cuts say how far the best visit is from the best node.
-use Rattle.std.proofs.Common.{◌≡◌, ℕ, zero, suc, ◌+◌, ◌≤◌, ◌⊎◌, List, [], ◌∷◌, ◌++◌, ◌∙◌, Option, Some, None, if◌then◌else◌, max, slice_get, refl, sym, ap, arith, ⊎_elim}
+use Rattle.std.proofs.Common.{◌≡◌, ℕ, ◌≤◌, ◌⊎◌, List, [], ◌∷◌, ◌++◌, ◌∙◌, Option, Some, None, max, slice_get, refl, sym, ap, arith, ⊎_elim}
 use Rattle.std.specs.List.{AllByRecursion, Contains, flat_map}
 use Rattle.std.proofs.lemmas.List.Elements.{All-contains, All-from_recursion}
 use Rattle.std.specs.Option.{option_map}
@@ -10,12 +10,13 @@ use Rattle.yew_laws.specs.SearchTree.{SearchTree, preorder, at_path, worth_at, b
 use Rattle.yew_laws.specs.Tree.{Member, tree, node_at, prefixed, paths as member_paths, IsRanked, IsBounded}
 use Rattle.yew_laws.proofs.Bags.{same-sym, same-part}
 use Rattle.yew_laws.proofs.Members.{AllByRecursion-append, AllByRecursion-map, AllByRecursion-weaker, AllByRecursion-both}
-use Rattle.yew_laws.proofs.PathTests.{is_path-same, is_path-is, suc_not_zero}
+use Rattle.yew_laws.proofs.PathTests.{is_path-same, is_path-is}
 use Rattle.yew_laws.proofs.Trees.{tree-sound, tree-node_at, tree-contains}
 use Rattle.yew_laws.proofs.Weights.{part-all}
 use Rattle.yew_laws.specs.Order.{is_path}
 use Rattle.yew_log.specs.Attained.{Attained, limit}
 use Rattle.yew_log.specs.Notes.{Judgement, paths, values, maximum}
+use Rattle.yew_walk.proofs.KeyOrder.{limit-grows, limit-least}
 
 -- a node further down
 node_at-further : {N : Type 0} (children : N → List N) (start n : N) (path rest : List ℕ) → node_at children start path ≡ Some n
@@ -44,14 +45,6 @@ greatest_of-least worth (m ∷ ms) b a = let h = a.0 in let r = greatest_of-leas
 greatest_of-bounds : {N : Type 0} (worth : N → ℕ) (ms : List (Member N)) → AllByRecursion (λ m. worth m.node ≤ greatest_of worth ms) ms
 greatest_of-bounds worth [] = tt
 greatest_of-bounds worth (m ∷ ms) = (omega arith, AllByRecursion-weaker (λ k. worth k.node ≤ greatest_of worth ms) (λ k. worth k.node ≤ max (worth m.node) (greatest_of worth ms)) (λ k h. omega arith) ms (greatest_of-bounds worth ms))
-
-limit-positive : (gap h : ℕ) → limit gap (suc h) ≡ suc h + gap
-limit-positive gap h = ap (λ b. if b then 0 else suc h + gap) (suc_not_zero h)
-
-limit-grows : (gap h best : ℕ) → h ≤ best → limit gap h ≤ limit gap best
-limit-grows gap zero best le = omega arith
-limit-grows gap (suc h) zero le = absurd (omega arith)
-limit-grows gap (suc h) (suc best) le = let a = limit-positive gap h in let b = limit-positive gap best in omega arith
 
 module _ {N : Type 0} (t : SearchTree N) {sound : N → Type 0} (ranked : IsRanked sound t.children t.rank) (bounded : IsBounded sound t.children t.worth t.bound) (root_sound : sound t.root) where
   -- the node at a path has at most this worth
@@ -97,16 +90,12 @@ module _ {N : Type 0} (t : SearchTree N) {sound : N → Type 0} (ranked : IsRank
         (λ v both n there.
         let is : Some (t.worth n) ≡ Some v.value = sym (ap (option_map t.worth) there) ∙ both.0 in
         let same : t.worth n ≡ v.value = cc in
-        let le = both.1 in let g = own-limit gap top in omega arith)
+        let le = both.1 in let g = limit-least gap top in omega arith)
         visits (AllByRecursion-both (λ (v : Judgement). worth_at t v.path ≡ Some v.value) (λ (v : Judgement). v.value ≤ top) visits attained.worths low)
       where
         values-below : (vs : List Judgement) (top : ℕ) → AllByRecursion (λ n. n ≤ top) (values vs) → AllByRecursion (λ (v : Judgement). v.value ≤ top) vs
         values-below [] top a = tt
         values-below (v ∷ vs) top a = (a.0, values-below vs top a.1)
-
-        own-limit : (gap top : ℕ) → top ≤ limit gap top
-        own-limit gap zero = omega arith
-        own-limit gap (suc top) = let a = limit-positive gap top in omega arith
 
     -- what a cut hides is at most what the best visit permits
     hidden-at_most : (cs : List Judgement) → AllByRecursion (λ (c : Judgement). bound_at t c.path ≡ Some c.value) cs
