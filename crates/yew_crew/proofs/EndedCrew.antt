@@ -270,7 +270,7 @@ module _ {N S R : Type 0} (t : SearchTree N) (join : S → S → S) (none : S) (
         (o.exact.last (kept.1 ∙ done.knew (ap (λ (v : OpenSeatView). v.knows) o.crew.first_is.tasks_is)) (kept.0 ∙ done.last_is))
 
     root-here : Contains (taken both) []
-    root-here = root-taken t 0 join none of both (paths_of pool_rest ++ paths_of mail_rest) work.balanced tasks-here all-there busy
+    root-here = root-taken t gap join none of both (paths_of pool_rest ++ paths_of mail_rest) work.balanced tasks-here all-there busy
 
     -- with one worker, the counts say that nothing is left
     none-left : rest ≡ [] → workers ≡ 1 → length left ≡ 0

@@ -18,8 +18,8 @@ use yew_log::Recorder;
 use yew_stack::Chunk;
 use yew_walk::{Hand, Hungry, Keying, SearchFault, walk};
 
-/// Walks one task to its end, with this permitted gap, and counts it as ended. A worker that asks in the meantime is given this chunk of the lowest
-/// level. A walk that is refused is not counted.
+/// Walks one task to its end, with this permitted gap, and counts it as ended. A worker that asks in the meantime is given
+/// this chunk of the lowest level. A walk that is refused is not counted.
 ///
 /// # Errors
 ///

@@ -15,3 +15,9 @@ returns-in-Reach-clause-answer g c =
     let t = search_tree g.P.Problem c.args.problem.now in
     let fold = Fold t (g.T.Tally.join c.args.tally.now) (g.T.Tally.none c.args.tally.now) (g.T.Tally.of c.args.tally.now) in
     subst (λ kind. IfOk c.reach.result (λ found. IsCrewAnswer t fold kind found.answer)) (sym c.in-Reach.is) (c.reach.ensures.answer fold)
+
+pub returns-in-Near-clause-answer : goal.returns-in-Near-clause-answer
+returns-in-Near-clause-answer g c =
+    let t = search_tree g.P.Problem c.args.problem.now in
+    let fold = Fold t (g.T.Tally.join c.args.tally.now) (g.T.Tally.none c.args.tally.now) (g.T.Tally.of c.args.tally.now) in
+    subst (λ kind. IfOk c.near.result (λ found. IsCrewAnswer t fold kind found.answer)) (sym c.in-Near.is) (c.near.ensures.answer fold)

@@ -7,7 +7,7 @@ use Rattle.yew_crew.specs.Stations.{searched, skeleton_of}
 use Rattle.yew_crew.proofs.search.search_together.Goals as goal
 
 pub end_crew-requires-clause-gap : goal.end_crew-requires-clause-gap
-end_crew-requires-clause-gap g c = subst (λ n. n ≤ 1099511627774) (sym c.in_ok-worked.ensures.gap) c.requires.gap
+end_crew-requires-clause-gap g c κs within = subst (λ n. n ≤ 1099511627774) (sym c.in_ok-worked.ensures.gap) c.requires.gap
 
 pub returns-clause-found : goal.returns-clause-found
 returns-clause-found g c =
