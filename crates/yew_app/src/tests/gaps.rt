@@ -182,7 +182,10 @@ fn gaps_of_crews(rt: HostRuntime) -> Result<(), Fail> {
             let ended = run_crew(&rt, alloc, line.as_str(), &files, CALM)?;
             let least = 90u64.saturating_sub(gap);
             assert_eq!(rt; ended.status, 0, "{line}");
-            assert!(rt; is_within(alloc, &ended.out, "items", &SETS, least, 90, gap)?, "{line}");
+            assert!(rt;
+                is_within(alloc, &ended.out, "items", &SETS, least, 90, gap)?,
+                "{line}"
+            );
             assert!(rt; ended.err.is_empty(), "{line}");
         }
     }
@@ -196,7 +199,10 @@ fn gaps_of_crews(rt: HostRuntime) -> Result<(), Fail> {
             let ended = run_crew(&rt, alloc, line.as_str(), &files, CALM)?;
             let most = gap.saturating_add(80);
             assert_eq!(rt; ended.status, 0, "{line}");
-            assert!(rt; is_within(alloc, &ended.out, "tour", &TOURS, 80, most, gap)?, "{line}");
+            assert!(rt;
+                is_within(alloc, &ended.out, "tour", &TOURS, 80, most, gap)?,
+                "{line}"
+            );
             assert!(rt; ended.err.is_empty(), "{line}");
         }
     }
@@ -218,7 +224,10 @@ fn gaps_that_are_not_here(rt: HostRuntime) -> Result<(), Fail> {
             "knapsack sequential k1 --gap 1 --target 90",
             "yew: word 6: not here\n",
         ),
-        ("subgraph sequential k1 k1 --gap 1", "yew: word 5: not here\n"),
+        (
+            "subgraph sequential k1 k1 --gap 1",
+            "yew: word 5: not here\n",
+        ),
     ] {
         let alone = run(alloc, line, &files, CALM)?;
         expect(&rt, line, &alone, 1, b"", err);
