@@ -16,6 +16,7 @@ pub mod OwnBoxes
 pub mod Reports
 pub mod Resting
 pub mod Rounds
+pub mod SmallTree
 pub mod Starting
 pub mod Stations
 pub mod Turns
