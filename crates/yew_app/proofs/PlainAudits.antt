@@ -1,9 +1,9 @@
 -- The one log of a sequential search is the logs of a whole search, and it fits where the tree is not large.
-use Rattle.std.proofs.Common.{◌≡◌, ◌≢◌, ℕ, zero, suc, ◌+◌, ◌*◌, ◌≤◌, ◌<◌, ◌⊎◌, inl, inr, List, [], ◌∷◌, ◌++◌, max, length, drop, Bool, true, false, Option, Some, None, ◌==◌, nat_le, if◌then◌else◌, refl, ap, sym, subst, ◌∙◌, append-nil, arith, leb-true, leb-false}
+use Rattle.std.proofs.Common.{◌≡◌, ◌≢◌, ℕ, zero, suc, ◌+◌, ◌*◌, ◌≤◌, ◌<◌, inl, inr, List, [], ◌∷◌, ◌++◌, max, length, drop, Bool, true, false, Option, Some, None, ◌==◌, nat_le, if◌then◌else◌, refl, ap, sym, subst, ◌∙◌, append-nil, arith}
 use Rattle.std.specs.Prelude.{IfSome, Contains, option_and_then}
 use Rattle.std.specs.List.{AllByRecursion, flat_map, sum_by}
 use Rattle.std.proofs.lemmas.Option.{same_Some}
-use Rattle.std.proofs.lemmas.List.Elements.{Contains-append_left, Contains-append_right}
+use Rattle.std.proofs.lemmas.List.Elements.{Contains-append_right}
 use Rattle.std.proofs.lemmas.Bool.Decides.{nat_tests}
 use Rattle.std.proofs.lemmas.List.Sums.{sum_by-append, sum_by-cons}
 use Rattle.yew_laws.specs.Bag.{SameBag}
@@ -12,75 +12,20 @@ use Rattle.yew_laws.specs.SearchTree.{SearchTree, at_path, below, numbered, tree
 use Rattle.yew_laws.specs.Tree.{IsRanked}
 use Rattle.yew_laws.proofs.Bags.{same-is}
 use Rattle.yew_laws.proofs.Below.{below-unfolds, child-at}
-use Rattle.yew_laws.proofs.Members.{AllByRecursion-append, AllByRecursion-weaker, Contains-head, Contains-tail}
+use Rattle.yew_laws.proofs.Members.{AllByRecursion-weaker, Contains-head}
 use Rattle.yew_laws.proofs.Steps.{drop_from_drop}
 use Rattle.yew_log.specs.Attained.{Attained, limit}
 use Rattle.yew_log.specs.AuditFull.{IsLarge, MeetsLimits}
 use Rattle.yew_log.specs.Groups.{sequential}
 use Rattle.yew_log.specs.Items.{in_turn}
-use Rattle.yew_log.specs.Notes.{Note, taken, visited, cut, spawned, handed, ended, Judgement, path_of, visits, cuts, values, maximum, judgement_in, taken_paths, sent_paths, visited_paths, cut_paths}
-use Rattle.yew_log.specs.Places.{AtEach}
+use Rattle.yew_log.specs.Notes.{Note, taken, visited, cut, ended, Judgement, path_of, visits, cuts, taken_paths, sent_paths, visited_paths, cut_paths}
 use Rattle.yew_log.specs.SeqLog.{visited_worth, visit_notes, seq_log}
 use Rattle.yew_log.specs.WholeSearch.{AreLogs, IsBestVisit, IsFirstBest, joined}
-use Rattle.yew_log.proofs.Growth.{worths-append}
-use Rattle.yew_log.proofs.Places.{AtEach-weaker}
-use Rattle.yew_log.proofs.SeqLaws.{Exact, Part, visit-part}
+use Rattle.yew_log.proofs.SeqLaws.{Part, visit-part}
 use Rattle.yew_log.proofs.SeqLawful.{seq_log-lawful}
+use Rattle.yew_walk.proofs.FirstFinds.{Cover-seq_log, Attained-seq_log}
 use Rattle.yew_walk.specs.FirstFound.{first_visit, found_worth, found_path}
 use Rattle.yew_app.specs.Texts.{first_node}
-
--- one more number in front of numbers whose greatest is 0 or one of them
-attained-push : (n : ℕ) (ns : List ℕ) → (maximum ns ≡ 0) ⊎ Contains ns (maximum ns) → (max n (maximum ns) ≡ 0) ⊎ Contains (n ∷ ns) (max n (maximum ns))
-attained-push n ns rest = by (nat_le (maximum ns) n) refl rest
-  where
-    by : (v : Bool) → nat_le (maximum ns) n ≡ v → (maximum ns ≡ 0) ⊎ Contains ns (maximum ns) → (max n (maximum ns) ≡ 0) ⊎ Contains (n ∷ ns) (max n (maximum ns))
-    by true x r =
-        let le : maximum ns ≤ n = leb-true (maximum ns) n x in
-        let same : n ≡ max n (maximum ns) = omega (arith, le) in
-        inr (subst (Contains (n ∷ ns)) same (Contains-head n ns))
-    by false x (inl none) = let above : n < maximum ns = leb-false (maximum ns) n x in absurd (omega (arith, above, none))
-    by false x (inr there) =
-        let above : n < maximum ns = leb-false (maximum ns) n x in
-        let same : maximum ns ≡ max n (maximum ns) = omega (arith, above) in
-        inr (subst (Contains (n ∷ ns)) same (Contains-tail n ns (maximum ns) there))
-
--- the greatest of some numbers is 0 or one of them
-maximum-attained : (ns : List ℕ) → (maximum ns ≡ 0) ⊎ Contains ns (maximum ns)
-maximum-attained [] = inl refl
-maximum-attained (n ∷ ns) = attained-push n ns (maximum-attained ns)
-
--- a held value is 0 or the worth of one of these visits
-abbrev IsAttained : List Note → Judgement → Type 0
-IsAttained notes j = (j.held ≡ 0) ⊎ Contains (values (visits notes)) j.held
-
--- the greatest worth of the earlier visits is that of one of all visits
-exact-attained : (before rest : List Note) (j : Judgement) → Exact before j → IsAttained (before ++ rest) j
-exact-attained before rest j exact = by (maximum-attained (values (visits before)))
-  where
-    by : (maximum (values (visits before)) ≡ 0) ⊎ Contains (values (visits before)) (maximum (values (visits before))) → IsAttained (before ++ rest) j
-    by (inl none) = inl (exact ∙ none)
-    by (inr there) = inr (subst (λ ws. Contains ws j.held) (sym (worths-append before rest))
-        (Contains-append_left (values (visits before)) (values (visits rest)) j.held (subst (Contains (values (visits before))) (sym exact) there)))
-
--- what holds of each visit and each cut at its place holds of the visits and of the cuts
-flat : (P : Judgement → Type 0) (before notes : List Note) → AtEach (λ b n a. AllByRecursion P (judgement_in n)) before notes → AllByRecursion P (visits notes) × AllByRecursion P (cuts notes)
-flat P before [] a = (tt, tt)
-flat P before (visited p w h ∷ ns) a = let r = flat P (before ++ visited p w h ∷ []) ns a.1 in ((a.0.0, r.0), r.1)
-flat P before (cut p w h ∷ ns) a = let r = flat P (before ++ cut p w h ∷ []) ns a.1 in (r.0, (a.0.0, r.1))
-flat P before (taken p ∷ ns) a = flat P (before ++ taken p ∷ []) ns a.1
-flat P before (spawned p ∷ ns) a = flat P (before ++ spawned p ∷ []) ns a.1
-flat P before (handed p ∷ ns) a = flat P (before ++ handed p ∷ []) ns a.1
-flat P before (ended p ∷ ns) a = flat P (before ++ ended p ∷ []) ns a.1
-
--- where each held value is the greatest worth of the earlier visits, each is 0 or the worth of a visit
-all-attained : (before notes : List Note) → AtEach (λ b n a. AllByRecursion (Exact b) (judgement_in n)) before notes → AllByRecursion (IsAttained (before ++ notes)) (visits notes ++ cuts notes)
-all-attained before notes exact =
-    let whole = before ++ notes in
-    let both = flat (IsAttained whole) before notes
-    (AtEach-weaker (λ b n a. AllByRecursion (Exact b) (judgement_in n)) (λ b n a. AllByRecursion (IsAttained whole) (judgement_in n)) whole before notes refl
-    (λ b n a e. AllByRecursion-weaker (Exact b) (IsAttained whole) (λ j x. subst (λ ns. IsAttained ns j) e (exact-attained b (n ∷ a) j x)) (judgement_in n))
-    exact) in
-    AllByRecursion-append (IsAttained whole) (visits notes) (cuts notes) both.0 both.1
 
 -- the first of these visits that has this worth stands at this path
 record IsFirstOf (worth : ℕ) (vs : List Judgement) (path : List ℕ) : Type 0 where
@@ -114,11 +59,6 @@ first_visit-stands worth (v ∷ vs) path e = by (v.value == worth) refl (first_v
         }
 
 module _ {N : Type 0} (t : SearchTree N) (gap : ℕ) where
-  -- the root is visited first
-  root-visited : (levels : ℕ) → Contains (visited_paths (visit_notes t gap levels [] t.root 0)) []
-  root-visited zero = Contains-head [] []
-  root-visited (suc levels) = Contains-head [] (visited_paths (in_turn visited_worth (λ p c h. if nat_le (t.bound c) (limit gap h) then cut p (t.bound c) h ∷ [] else visit_notes t gap levels p c h) [] 0 (t.children t.root) (max 0 (t.worth t.root)) ++ ended [] ∷ []))
-
   -- the node at the path of a first visit of the greatest worth
   abbrev pub FirstBest : Option N → Type 0
   FirstBest found = IfSome found (IsFirstBest t (seq_log t gap))
@@ -168,26 +108,6 @@ module _ {N : Type 0} (t : SearchTree N) (gap : ℕ) where
     seq_log-tasks : SameBag (taken_paths (seq_log t gap)) ([] ∷ sent_paths (seq_log t gap))
     seq_log-tasks = same-is (ap (λ (ps : List (List ℕ)). [] ∷ ps) (body-part.is_made.untaken ∙ sym body-part.is_made.unsent))
 
-    seq_log-cover : Cover t (visited_paths (seq_log t gap)) (cut_paths (seq_log t gap))
-    seq_log-cover =
-        let notes = visit_notes t gap (t.rank t.root) [] t.root 0 in
-        record {
-          root_visited = root-visited (t.rank t.root);
-          each_once = subst (λ ps. SameBag (visited_paths notes ++ flat_map (below t) ps) (tree_paths t))
-              (ap (λ ps. cut_paths notes ++ ps) body-part.is_made.unsent ∙ append-nil (cut_paths notes))
-              body-part.all_covered;
-        }
-
-    seq_log-attained : Attained t gap (visits (seq_log t gap)) (cuts (seq_log t gap))
-    seq_log-attained =
-        let notes = visit_notes t gap (t.rank t.root) [] t.root 0 in
-        record {
-          worths = body-part.is_made.valued.worths;
-          bounds = body-part.is_made.valued.bounds;
-          permitted = body-part.is_made.permitted;
-          attained = all-attained (taken [] ∷ []) notes (body-part.is_made.exact (taken [] ∷ []) refl);
-        }
-
     -- the one sequential log is the logs of a whole search
     pub seq_log-are_logs : AreLogs t gap sequential 1 (seq_log t gap ∷ []) (first_node t gap)
     seq_log-are_logs =
@@ -196,8 +116,8 @@ module _ {N : Type 0} (t : SearchTree N) (gap : ℕ) where
           one_each = refl;
           lawful = (seq_log-lawful t gap ranked root, tt);
           tasks = subst (λ ns. SameBag (taken_paths ns) ([] ∷ sent_paths ns)) is seq_log-tasks;
-          cover = subst (λ ns. Cover t (visited_paths ns) (cut_paths ns)) is seq_log-cover;
-          attained = subst (λ ns. Attained t gap (visits ns) (cuts ns)) is seq_log-attained;
+          cover = subst (λ ns. Cover t (visited_paths ns) (cut_paths ns)) is (Cover-seq_log t ranked root gap);
+          attained = subst (λ ns. Attained t gap (visits ns) (cuts ns)) is (Attained-seq_log t ranked root gap);
           best = subst (λ ns. IfSome (first_node t gap) (IsBestVisit t ns)) is (first-visit (first_node t gap) first_node-first);
         }
 

@@ -18,10 +18,10 @@ use Rattle.yew_kinds.proofs.tally.NoTally.TheSendSync.{the_sync as no_tally}
 use Rattle.yew_app.proofs.solve.solve_by_crew.Goals as goal
 
 pub solve_together-requires : goal.solve_together-requires
-solve_together-requires g b c = (search (knap_node, sendable) depth 20, (search (knap_kids, sendable) depth 20, (search sendable depth 20, ((let shares = b.type_bounds.sync-G in search sendable depth 20), ((let shares = b.type_bounds.sync-H in search sendable depth 20), (search (knapsack, sendable) depth 20, (search (no_tally, sendable) depth 20, ((refl, tt), (b.plan_is_askable.ensures, c.knapsack_of-job.ensures.exact)))))))))
+solve_together-requires g b c = (search (knap_node, sendable) depth 20, (search (knap_kids, sendable) depth 20, (search sendable depth 20, ((let shares = b.type_bounds.sync-G in search sendable depth 20), ((let shares = b.type_bounds.sync-H in search sendable depth 20), (search (knapsack, sendable) depth 20, (search (no_tally, sendable) depth 20, ((refl, tt), (b.plan_is_askable.ensures, b.knapsack_of-job.ensures.exact)))))))))
 
 pub solve_together-requires-in-Tsp : goal.solve_together-requires-in-Tsp
-solve_together-requires-in-Tsp g b c = (search (tour_node, sendable) depth 20, (search (tour_kids, sendable) depth 20, (search sendable depth 20, ((let shares = b.type_bounds.sync-G in search sendable depth 20), ((let shares = b.type_bounds.sync-H in search sendable depth 20), (search (tours, sendable) depth 20, (search (no_tally, sendable) depth 20, ((refl, tt), (b.plan_is_askable.ensures, c.tours_of-job.ensures.exact)))))))))
+solve_together-requires-in-Tsp g b c = (search (tour_node, sendable) depth 20, (search (tour_kids, sendable) depth 20, (search sendable depth 20, ((let shares = b.type_bounds.sync-G in search sendable depth 20), ((let shares = b.type_bounds.sync-H in search sendable depth 20), (search (tours, sendable) depth 20, (search (no_tally, sendable) depth 20, ((refl, tt), (b.plan_is_askable.ensures, b.tours_of-job.ensures.exact)))))))))
 
 pub solve_together-requires-in-Subgraph : goal.solve_together-requires-in-Subgraph
 solve_together-requires-in-Subgraph g b c = (search (map_node, sendable) depth 20, (search (map_kids, sendable) depth 20, (search sendable depth 20, ((let shares = b.type_bounds.sync-G in search sendable depth 20), ((let shares = b.type_bounds.sync-H in search sendable depth 20), (search (subgraph, sendable) depth 20, (search (no_tally, sendable) depth 20, ((refl, tt), (b.plan_is_askable.ensures, λ ordered. tt)))))))))
