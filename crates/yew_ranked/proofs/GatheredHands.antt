@@ -8,7 +8,7 @@ use Rattle.yew_laws.proofs.Members.{AllByRecursion-map, AllByRecursion-weaker}
 use Rattle.yew_walk.specs.declared.hand.Hand.{Hand}
 use Rattle.yew_walk.specs.Hands.{incumbent_of}
 use Rattle.yew_crew.specs.Gathering.{IsGathered}
-use Rattle.yew_crew.proofs.BestFinds.{nothing, holding, not_holding}
+use Rattle.yew_walk.proofs.BestFinds.{nothing, holding, not_holding}
 use Rattle.yew_ranked.specs.RankedSearch.{RankedJudgement, answer_key_of, ranked_answer, better, gathered_answer}
 
 better-taken : (i j : Incumbent) → i.worth < j.worth → better i j ≡ j

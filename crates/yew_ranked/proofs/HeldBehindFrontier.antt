@@ -29,7 +29,7 @@ use Rattle.yew_ranked.specs.RankedSearch.{RankedJudgement, key_of_judgement, pla
 use Rattle.yew_ranked.specs.Stations.{AreRising}
 use Rattle.yew_ranked.specs.Tasks.{tasks_of_tree}
 use Rattle.yew_ranked.proofs.ItemPlaces.{in_items-rise}
-use Rattle.yew_ranked.proofs.ItemWalks.{ArePartsAt, parts-all, keys-rise, visited-in_item}
+use Rattle.yew_ranked.proofs.ItemWalks.{ArePartsAt, parts-all, parts-exact, keys-rise, visited-in_item}
 use Rattle.yew_ranked.proofs.PathOrder.{before-not_both}
 
 -- the keys of all these visits were offered
@@ -224,6 +224,6 @@ module _ {N : Type 0} (t : SearchTree N) (front : List Note) (earlier : List Ran
           → IsJudged t 0 ranked front → IsJudged t 0 ranked (front ++ all_entries walks)
       behind-judged places walks a b are rising offered g judged =
           judged-join (all_entries walks) judged
-          (walks-judged t ranked walks a b g (keys-rise t depth places walks are rising)
+          (walks-judged t 0 ranked walks a b (parts-exact t (tasks_of_tree t depth) places walks are) g (keys-rise t depth places walks are rising)
           (parts-all t (tasks_of_tree t depth) (λ w. IsJudged t 0 ranked (entries_in w.segment)) (λ p w part. part.judged) places walks are))
           (walks-behind places walks a b are offered g).1

@@ -17,6 +17,7 @@ use Rattle.yew_log.specs.Notes.{visited_paths, cut_paths, sent_paths}
 use Rattle.yew_log.specs.Segment.{Segment, entries_in, IsBroken}
 use Rattle.yew_walk.specs.declared.keying.Keying.{Keying}
 use Rattle.yew_walk.specs.declared.keying.Keying.TheVariants.{Ranked}
+use Rattle.yew_walk.specs.Keys.{gap_in}
 use Rattle.yew_walk.specs.WorkerLogs.{KeyedSegment, ComesFirst, KeysRise}
 use Rattle.yew_ranked.specs.Stations.{AreRising}
 use Rattle.yew_ranked.specs.Tasks.{Numbered, tasks_of_tree}
@@ -124,6 +125,10 @@ module _ {N : Type 0} (t : SearchTree N) where
   parts-all tasks P f [] (w ∷ ws) are = absurd are
   parts-all tasks P f (p ∷ ps) [] are = absurd are
   parts-all tasks P f (p ∷ ps) (w ∷ ws) are = (f p w are.0, parts-all tasks P f ps ws are.1)
+
+  -- no walk permits a gap
+  pub parts-exact : (tasks : List Numbered) (places : List ℕ) (walks : List KeyedSegment) → ArePartsAt tasks places walks → AllByRecursion (λ (w : KeyedSegment). gap_in w.keying ≡ 0) walks
+  parts-exact tasks = parts-all tasks (λ w. gap_in w.keying ≡ 0) (λ p w part. ap gap_in part.keys)
 
   -- the keys of walks at rising places of the tasks of the tree rise
   comes-first : (first second : Keying) (a b : ℕ) → first ≡ Ranked a → second ≡ Ranked b → a < b → ComesFirst first second

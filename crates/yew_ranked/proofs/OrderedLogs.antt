@@ -26,7 +26,7 @@ use Rattle.yew_ranked.proofs.FrontierItems.{frontier_log-items}
 use Rattle.yew_ranked.proofs.FrontierLawful.{frontier-segment, frontier-groups, frontier-rises, frontier-maximum, frontier-judged}
 use Rattle.yew_ranked.proofs.HeldBehindFrontier.{AreOffered, behind-rises, behind-judged}
 use Rattle.yew_ranked.proofs.ItemPlaces.{in_items-rise}
-use Rattle.yew_ranked.proofs.ItemWalks.{parts-all, keys-rise, in-item}
+use Rattle.yew_ranked.proofs.ItemWalks.{parts-all, parts-exact, keys-rise, in-item}
 use Rattle.yew_ranked.proofs.TaskRanks.{task-item, task-depth, ranks-rise}
 use Rattle.yew_ranked.proofs.WorkersLogs.{offered-all, task-parts, task-segments}
 
@@ -109,7 +109,7 @@ module _ {N : Type 0} (t : SearchTree N) (levels : ℕ) where
             shape = (parts-rise places walks are rising, λ e. absurd (other e));
           };
           held_rises = walks-rise t walks a b goes keys (parts-all t tasks (λ (w : KeyedSegment). HeldRises (entries_in w.segment)) (λ p w part. part.rises) places walks parts);
-          due = walks-judged t ranked walks a b goes keys (parts-all t tasks (λ (w : KeyedSegment). IsJudged t 0 ranked (entries_in w.segment)) (λ p w part. part.judged) places walks parts);
+          due = walks-judged t 0 ranked walks a b (parts-exact t tasks places walks parts) goes keys (parts-all t tasks (λ (w : KeyedSegment). IsJudged t 0 ranked (entries_in w.segment)) (λ p w part. part.judged) places walks parts);
           alone = λ e. absurd (several e);
         }
 

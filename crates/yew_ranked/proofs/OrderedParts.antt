@@ -13,7 +13,7 @@ use Rattle.yew_crew.specs.Gathering.{IsGathered}
 use Rattle.yew_crew.specs.Reports.{IsEndDone}
 use Rattle.yew_crew.specs.declared.station.End.{End}
 use Rattle.yew_crew.specs.declared.station.End.TheVariants.{Done, Stopped, Fault}
-use Rattle.yew_crew.proofs.BestFinds.{nothing, not_holding}
+use Rattle.yew_walk.proofs.BestFinds.{nothing, not_holding}
 use Rattle.yew_ranked.specs.ClaimSeats.{AreBelow}
 use Rattle.yew_ranked.specs.Frontier.{frontier_log}
 use Rattle.yew_ranked.specs.Joining.{hands_of}

@@ -19,7 +19,7 @@ use Rattle.yew_log.specs.Segment.{entries, entries_in}
 use Rattle.yew_log.proofs.EntryPlaces.{below-longer}
 use Rattle.yew_walk.specs.WorkerLogs.{KeyedSegment, segments_of}
 use Rattle.yew_walk.specs.declared.keying.Keying.{Keying}
-use Rattle.yew_walk.specs.declared.keying.Keying.TheVariants.{Plain, Ranked}
+use Rattle.yew_walk.specs.declared.keying.Keying.TheVariants.{Ranked}
 use Rattle.yew_ranked.specs.ClaimSeats.{AreBelow}
 use Rattle.yew_ranked.specs.Frontier.{frontier_log}
 use Rattle.yew_ranked.specs.FrontierWalk.{AreFrontierJudgements}
@@ -39,8 +39,8 @@ use Rattle.yew_ranked.proofs.WorkerVisits.{all-unmap, IsAtPlaces, on_visits-plai
 
 -- a walk as the task that it is of
 abbrev pub rank_of : Keying → ℕ
-rank_of Plain = 0
 rank_of (Ranked rank) = rank
+rank_of _ = 0
 
 abbrev pub task_of : KeyedSegment → Numbered
 task_of walk = record { path = walk.segment.task; rank = rank_of walk.keying }

@@ -31,7 +31,7 @@ use Rattle.yew_ranked.proofs.ExactBehindFrontier.{behind-exact}
 use Rattle.yew_ranked.proofs.FrontierItems.{frontier_log-tasks}
 use Rattle.yew_ranked.proofs.FrontierLawful.{frontier-segment, frontier-broken, frontier-sent, frontier-rises, frontier-maximum, frontier-judged}
 use Rattle.yew_ranked.proofs.HeldBehindFrontier.{AreOffered, behind-rises, behind-judged}
-use Rattle.yew_ranked.proofs.ItemWalks.{IsPartAt, ArePartsAt, parts-push, parts-all, parts-of_tasks, keys-rise}
+use Rattle.yew_ranked.proofs.ItemWalks.{IsPartAt, ArePartsAt, parts-push, parts-all, parts-exact, parts-of_tasks, keys-rise}
 
 -- a seat along the first of some entries
 pub front-goes : {N : Type 0} (t : SearchTree N) (keying : Keying) (a c : SeatView) (xs ys : List Note) → SeatGoes t keying a (xs ++ ys) c → (b : SeatView) × SeatGoes t keying a xs b
@@ -227,7 +227,7 @@ module _ {N : Type 0} (t : SearchTree N) where
         let each = brokens a b notes noted in
         let rises = walks-rise t noted.walks a b noted.goes (keys-rise t depth noted.places noted.walks noted.are_parts noted.rising)
         (parts-all t tasks (λ (w : KeyedSegment). HeldRises (entries_in w.segment)) (λ p w part. part.rises) noted.places noted.walks noted.are_parts) in
-        let judged = walks-judged t ranked noted.walks a b noted.goes (keys-rise t depth noted.places noted.walks noted.are_parts noted.rising)
+        let judged = walks-judged t 0 ranked noted.walks a b (parts-exact t tasks noted.places noted.walks noted.are_parts) noted.goes (keys-rise t depth noted.places noted.walks noted.are_parts noted.rising)
         (parts-all t tasks (λ (w : KeyedSegment). IsJudged t 0 ranked (entries_in w.segment)) (λ p w part. part.judged) noted.places noted.walks noted.are_parts) in
         let cut_up : notes ≡ entries (noted.whole ++ noted.last) = noted.notes_are ∙ ap entries noted.split in
         record {

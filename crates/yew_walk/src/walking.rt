@@ -175,12 +175,10 @@ fn turn<P: Problem, Q: Policy, O: Outlet<P>, T: Tally<P::Node>, R: Recorder>(
     }
 }
 
-/// Runs one task to its end: its node and what lies below it are visited or cut off, or split off where the policy asks
-/// for it, and sent to the outlet. Each step is recorded.
-///
-/// A visited node is noted by the tally, and the hand keeps the greatest key of a visited node that is an answer, with
-/// its path. `AuditFull` comes where the log has no room for the next entry, and `TooManyTasks` never.
-pub fn walk<P: Problem, Q: Policy, O: Outlet<P>, T: Tally<P::Node>, R: Recorder>(
+/// Runs one task to its end. What is told of the keys by the caller is known at each node: where it names one kind of them,
+/// no node asks again which it is.
+#[inline(always)]
+fn walk_by<P: Problem, Q: Policy, O: Outlet<P>, T: Tally<P::Node>, R: Recorder>(
     alloc: Global,
     problem: &P,
     task: Task<P::Node>,
@@ -242,5 +240,89 @@ pub fn walk<P: Problem, Q: Policy, O: Outlet<P>, T: Tally<P::Node>, R: Recorder>
             Ok(false) => return Ok(()),
             Err(fault) => return Err(fault),
         }
+    }
+}
+
+/// Runs one task to its end: its node and what lies below it are visited or cut off, or split off where the policy asks
+/// for it, and sent to the outlet. Each step is recorded.
+///
+/// A visited node is noted by the tally, and the hand keeps the greatest key of a visited node that is an answer, with
+/// its path. `AuditFull` comes where the log has no room for the next entry, and `TooManyTasks` never.
+///
+/// The kinds of keys are told apart once, before the first node.
+pub fn walk<P: Problem, Q: Policy, O: Outlet<P>, T: Tally<P::Node>, R: Recorder>(
+    alloc: Global,
+    problem: &P,
+    task: Task<P::Node>,
+    best: &Best,
+    seat: &mut BestSeat,
+    keying: Keying,
+    policy: &mut Q,
+    outlet: &mut O,
+    tally: &T,
+    hand: &mut Hand<T::Sum>,
+    log: &mut R,
+) -> Result<(), SearchFault>
+    requires root { P.sound problem.now (P.root problem.now) }
+    requires task { IsTask P.Problem problem.now task.path.numbers task.node }
+    requires seat { seat.old.best ≡ best.now }
+    requires keying { IsKeying keying }
+    requires outlet { O.problem outlet.old ≡ problem.now }
+    requires space { 65535 ≤ hand.old.path.space }
+    requires fits { T.fits tally.now hand.old.sum }
+    ensures walked { OnOk result (IsWalked P.Problem problem.now keying (T.join tally.now) (T.of tally.now) Q.meaning task.path.numbers (T.none tally.now) (λ calls. O.goes outlet.old calls outlet.new)
+        (scene seat.old hand.old policy.old (O.sent outlet.old) (O.answers outlet.old) (log_view (R.told log.old) (R.totals log.old) (R.number log.old)))
+        (scene seat.new hand.new policy.new (O.sent outlet.new) (O.answers outlet.new) (log_view (R.told log.new) (R.totals log.new) (R.number log.new)))) }
+    ensures refused { IfErr result (IsRefused P.Problem problem.now keying (T.join tally.now) (T.of tally.now) Q.meaning task.path.numbers
+        (scene seat.old hand.old policy.old (O.sent outlet.old) (O.answers outlet.old) (log_view (R.told log.old) (R.totals log.old) (R.number log.old)))
+        (scene seat.new hand.new policy.new (O.sent outlet.new) (O.answers outlet.new) (log_view (R.told log.new) (R.totals log.new) (R.number log.new)))) }
+    ensures seat { seat.new.best ≡ seat.old.best }
+    ensures share { seat.new.share ≡ seat.old.share }
+    ensures space { hand.new.path.space ≡ hand.old.path.space }
+    ensures fits { T.fits tally.now hand.new.sum }
+    ensures problem { O.problem outlet.new ≡ O.problem outlet.old }
+    ensures kept { O.kept outlet.old outlet.new }
+    ensures later { OnOk result (O.later outlet.old outlet.new) }
+{
+    match keying {
+        Keying::Plain => walk_by(
+            alloc,
+            problem,
+            task,
+            best,
+            seat,
+            Keying::Plain,
+            policy,
+            outlet,
+            tally,
+            hand,
+            log,
+        ),
+        Keying::Ranked(rank) => walk_by(
+            alloc,
+            problem,
+            task,
+            best,
+            seat,
+            Keying::Ranked(rank),
+            policy,
+            outlet,
+            tally,
+            hand,
+            log,
+        ),
+        Keying::Gap(gap) => walk_by(
+            alloc,
+            problem,
+            task,
+            best,
+            seat,
+            Keying::Gap(gap),
+            policy,
+            outlet,
+            tally,
+            hand,
+            log,
+        ),
     }
 }

@@ -1,6 +1,6 @@
 //! A plain judge of answers and logs, by the definitions alone: each node of the tree is visited once or lies at or under
-//! exactly one cut, each cut's bound is at most the held value, each held value is 0 or a visited worth, and the tasks
-//! that were taken are the root's and those that were spawned or handed over.
+//! exactly one cut, each cut's bound is at most what the held value permits to cut, each held value is 0 or a visited worth,
+//! and the tasks that were taken are the root's and those that were spawned or handed over.
 
 use super::increasing::{Increasing, next_child, number_at};
 use std::alloc::Global;
@@ -66,8 +66,16 @@ pub fn worth_at(tree: &Increasing, node: usize) -> u64 {
 fn seen_by(kind: Kind, counted: u64, number: u64) -> u64 {
     match kind {
         Kind::Count => counted,
-        Kind::Best => number,
+        Kind::Best | Kind::Near(_) => number,
         Kind::Reach(target) => { if number >= target { 1 } else { 0 } }
+    }
+}
+
+/// The greatest bound that a held value permits to cut.
+fn permitted(kind: Kind, held: u64) -> u64 {
+    match kind {
+        Kind::Near(gap) if held > 0 => held.saturating_add(gap),
+        _ => held,
     }
 }
 
@@ -105,7 +113,9 @@ fn mark_entry(tree: &Increasing, kind: Kind, entry: &Entry, marks: &mut Marks) -
         Entry::Cut(path, bound, held) => match node_at(tree, path) {
             Some(node) => {
                 mark(&mut marks.cut, node);
-                node > 0 && *bound == seen_by(kind, 1, bound_at(tree, node)) && *bound <= *held
+                node > 0
+                    && *bound == seen_by(kind, 1, bound_at(tree, node))
+                    && *bound <= permitted(kind, *held)
             }
             None => false,
         },
@@ -219,8 +229,20 @@ pub fn greatest_of(tree: &Increasing) -> u64 {
     greatest
 }
 
-/// Whether an answer is right for the tree: the number of nodes at each depth; the greatest worth, with a node that has
-/// it, unless it is 0; or a node that meets the target, exactly where there is one.
+/// Whether the answer is this worth, with a node that has it, unless it is 0.
+fn has_worth(tree: &Increasing, worth: u64, path: &Option<Path>) -> bool {
+    match path {
+        Some(path) => match node_at(tree, path) {
+            Some(node) => worth > 0 && worth_at(tree, node) == worth,
+            None => false,
+        },
+        None => worth == 0,
+    }
+}
+
+/// Whether an answer is right for the tree: the number of nodes at each depth; the greatest worth, or one within the gap of
+/// it that is 0 only where that is, with a node that has it, unless it is 0; or a node that meets the target, exactly where
+/// there is one.
 pub fn is_right_answer(
     alloc: Global,
     tree: &Increasing,
@@ -234,14 +256,10 @@ pub fn is_right_answer(
             counts == widths(alloc, tree, counts.len())?.as_slice()
         }
         (Kind::Best, Answer::Best { worth, path }) => {
-            *worth == greatest
-                && match path {
-                    Some(path) => match node_at(tree, path) {
-                        Some(node) => greatest > 0 && worth_at(tree, node) == greatest,
-                        None => false,
-                    },
-                    None => greatest == 0,
-                }
+            *worth == greatest && has_worth(tree, greatest, path)
+        }
+        (Kind::Near(gap), Answer::Best { worth, path }) => {
+            greatest <= permitted(Kind::Near(gap), *worth) && has_worth(tree, *worth, path)
         }
         (Kind::Reach(target), Answer::Reach(path)) => match path {
             Some(path) => match node_at(tree, path) {

@@ -1,7 +1,7 @@
 //! Ordered searches of many small trees: the answer is that of one worker in preorder, its path included, and the logs are
 //! judged.
 ghost use Rattle.std.specs.Prelude.{◌≤◌};
-ghost use Rattle.yew_kinds.specs.Kinds.{IsKindInRange};
+ghost use Rattle.yew_kinds.specs.Kinds.{IsKindInRange, IsExact};
 
 use super::increasing::Increasing;
 use super::judging::{are_right_logs, greatest_of};
@@ -54,6 +54,7 @@ fn is_in_order<R: Threads + Wait + Sync>(
     requires depth { (1 ≤ depth) × (depth ≤ 255) }
     requires workers { (1 ≤ workers) × (workers ≤ 64) }
     requires range { IsKindInRange kind }
+    requires exact { IsExact kind }
 {
     if tree.parents.is_empty() || tree.parents.len() > 65535 {
         return Err(SearchFault::Memory);

@@ -101,8 +101,8 @@ fn is_searched<R: Threads + Wait + Sync>(
     )
 }
 
-/// Whether searches of each kind are right: a count, a best node, and decisions whose target is the least one, the
-/// greatest worth, and the next number.
+/// Whether searches of each kind are right: a count, a best node, one within a gap of 0, of 2 and of the greatest worth of
+/// the best, and decisions whose target is the least one, the greatest worth, and the next number.
 fn are_searched<R: Threads + Wait + Sync>(
     rt: &R,
     alloc: Global,
@@ -117,6 +117,9 @@ fn are_searched<R: Threads + Wait + Sync>(
     Ok(
         is_searched(rt, alloc, tree, Kind::Count, coord, workers)?
             && is_searched(rt, alloc, tree, Kind::Best, coord, workers)?
+            && is_searched(rt, alloc, tree, Kind::Near(0), coord, workers)?
+            && is_searched(rt, alloc, tree, Kind::Near(2), coord, workers)?
+            && is_searched(rt, alloc, tree, Kind::Near(greatest), coord, workers)?
             && is_searched(rt, alloc, tree, Kind::Reach(1), coord, workers)?
             && is_searched(
                 rt,

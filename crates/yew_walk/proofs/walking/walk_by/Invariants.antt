@@ -2,7 +2,7 @@ use Rattle.std.proofs.Common.{◌≡◌}
 use Rattle.yew_stack.specs.ToCome.{turns_left, AllOpen}
 use Rattle.yew_walk.specs.LogViews.{log_view}
 use Rattle.yew_walk.specs.Scenes.{scene, IsWalking}
-use Rattle.yew_walk.proofs.walking.walk.Given as goal
+use Rattle.yew_walk.proofs.walking.walk_by.Given as goal
 
 -- the walk is under way since the call began
 abbrev pub invariant-loop-stack : goal.invariant-loop-stack
