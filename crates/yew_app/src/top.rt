@@ -110,7 +110,8 @@ fn refuse<E: Sink>(sink: &mut E, refusal: Refusal) -> u8
 ///
 /// Under `sequential` and `ordered` the solution is the first best node in preorder. So a plan for `ordered` that asks for
 /// neither report nor audit writes the text of the plan that has `sequential` in its place, for every depth, every number of
-/// workers and every schedule.
+/// workers and every schedule. With a gap, which is not for `ordered`, the value that is written is within the gap of the best
+/// one; under `sequential` the solution is then the first node of the greatest worth that the one worker visits.
 ///
 /// Each worker passes the gate at each task that it takes. No answer depends on it.
 pub fn run<'a, H: Threads + Wait + Sync, S: Shelf<'a>, K: Sink, E: Sink, G: Gate>(

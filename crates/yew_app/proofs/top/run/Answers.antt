@@ -75,3 +75,9 @@ returns-clause-tasks g c = λ no_fault.
     let after = outside g.S.Shelf g.K.Sink g.E.Sink c.crew_text.new.shelf c.args.out.now c.refuse-in-Err.new.sink in
     let says : Says before after c.refuse-in-Err.result reason_is = record { status_is = c.refuse-in-Err.ensures.status; prefix = c.refuse-in-Err.ensures.prefix; whole = c.refuse-in-Err.ensures.whole } in
     λ many. past-says (IsTrue many.plan.audit) before after c.refuse-in-Err.result reason_is (c.in-Err.ensures.tasks no_fault many) says
+
+pub returns-in-Ok-write_whole-clause-audit_full : goal.returns-in-Ok-write_whole-clause-audit_full
+returns-in-Ok-write_whole-clause-audit_full g c = λ no_fault fills. absurd (c.in-Ok.ensures.audit_full no_fault fills)
+
+pub returns-in-Ok-clause-audit_full : goal.returns-in-Ok-clause-audit_full
+returns-in-Ok-clause-audit_full g c = λ no_fault fills. absurd (c.in-Ok.ensures.audit_full no_fault fills)
