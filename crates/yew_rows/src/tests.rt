@@ -1,4 +1,5 @@
 mod increasing;
+mod items;
 mod judged;
 mod judging;
 mod meeting;
