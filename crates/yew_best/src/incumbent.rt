@@ -57,8 +57,11 @@ impl Model for BestSeat {
 }
 
 impl Best {
-    /// Makes a word that is 0 and its first seat, which has the whole share, `seats`. `Memory` comes only where
-    /// memory ran out.
+    /// Makes a word that is 0 and its first seat, which has the whole share, `seats`.
+    ///
+    /// # Errors
+    ///
+    /// `Memory` where memory ran out.
     pub fn new(alloc: Global, seats: u32) -> Result<(Best, BestSeat), Memory>
         requires { 0 < seats }
         ensures best { IfOk result (λ r. r.0.seats ≡ seats) }

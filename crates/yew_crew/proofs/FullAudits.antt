@@ -95,6 +95,7 @@ module _ {N : Type 0} (t : SearchTree N) (gap : ℕ) (coord : Coord) (workers nu
               are_told = refl;
               entries_are = full.entries_are ∙ ap length same;
               numbers_are = full.numbers_are ∙ ap path_numbers same;
+              within = full.within;
               past = full.past;
             };
             in_tree = all-front (λ note. IsSome (at_path t (path_of note))) (notes ++ next ∷ []) more (subst (AreOfTree t) front tree);

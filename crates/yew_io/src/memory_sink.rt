@@ -34,6 +34,10 @@ impl MemorySink {
 
     /// An empty sink that takes `room` bytes in all, and at most `most` in one call. A call fails exactly where its
     /// number is in `fails`, or where it is handed a piece that is not empty and the room is used up.
+    ///
+    /// # Errors
+    ///
+    /// `Memory` where memory ran out.
     pub fn new(
         alloc: Global,
         room: usize,

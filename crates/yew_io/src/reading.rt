@@ -25,8 +25,10 @@ const FIRST_PIECE: usize = 1 << 16;
 
 /// Reads the file of that name from its first byte to its end, if it has at most `limit` bytes.
 ///
+/// # Errors
+///
 /// `TooLong` comes exactly where more than `limit` bytes were read without a fault, and `Fault` exactly where the
-/// shelf's last call failed.
+/// shelf's last call failed. `Memory` where memory ran out.
 pub fn read_all<'a, S: Shelf<'a>>(
     alloc: Global,
     shelf: &mut S,

@@ -34,6 +34,10 @@ pub trait Tally<N>: Sync {
     ghost of_fits: { (tally : Self) (node : N) (depth : ℕ) → fits tally (of tally node depth) };
 
     /// The sum of no nodes.
+    ///
+    /// # Errors
+    ///
+    /// `Memory` where memory ran out.
     fn none(&self, alloc: Global) -> Result<Self::Sum, Memory>
         ensures { IfOk result (λ sum. sum ≡ none self.now) };
 

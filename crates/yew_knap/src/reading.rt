@@ -123,8 +123,11 @@ fn read_items(
 
 /// The problem of a knapsack file.
 ///
-/// It answers `Refused` with the first offence of a file that is not in its grammar, and of one that is, `TooLarge` with
+/// # Errors
+///
+/// `Refused` with the first offence of a file that is not in its grammar, and of one that is, `TooLarge` with
 /// the first number past its limit: 256 items, a profit and a weight of 2^31 - 1, a capacity of 2^40 - 1.
+/// `Memory` where memory ran out.
 pub fn read(alloc: Global, bytes: &[u8]) -> Result<Knapsack, FileEnd>
     ensures file { IfOk result (λ problem. IsKnapsackFile bytes.now problem) }
     ensures limits { IfOk result (λ problem. IsWithinLimits problem) }

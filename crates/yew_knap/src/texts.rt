@@ -36,6 +36,10 @@ impl Knapsack {
     /// The text of the best profit: the line `best P` and the line `items` with the numbers of the chosen items, rising.
     ///
     /// It takes a node with its worth, which is 1 more than its profit P.
+    ///
+    /// # Errors
+    ///
+    /// `Memory` where memory ran out.
     pub fn best_text(&self, alloc: Global, worth: u64, node: &KnapNode) -> Result<Vec<u8>, Memory>
         requires root { IsNode self.now (root_of self.now) }
         requires node { IsNode self.now node.now }
@@ -79,6 +83,10 @@ impl Knapsack {
 
     /// The text of a decision: the line `yes` and the line `items` with the numbers of the chosen items, rising, where a
     /// node is given, and the line `no` where none is.
+    ///
+    /// # Errors
+    ///
+    /// `Memory` where memory ran out.
     pub fn reach_text(&self, alloc: Global, node: Option<&KnapNode>) -> Result<Vec<u8>, Memory>
         requires root { IsNode self.now (root_of self.now) }
         requires node { ForSome node (λ n. IsNode self.now n.now) }

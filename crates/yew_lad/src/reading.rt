@@ -86,8 +86,11 @@ fn read_vertices(
 
 /// The graph of a file, of at most `limit` vertices.
 ///
-/// It answers `Refused` with the first offence of a file that is not in its grammar, a successor that is no vertex being
+/// # Errors
+///
+/// `Refused` with the first offence of a file that is not in its grammar, a successor that is no vertex being
 /// a number too big, and of one that is, `TooLarge` with the number of vertices where it is past the limit.
+/// `Memory` where memory ran out.
 pub fn read(alloc: Global, bytes: &[u8], limit: u64) -> Result<Graph, FileEnd>
     requires { limit ≤ 1024 }
     ensures file { IfOk result (λ graph. IsGraphFile bytes.now graph) }

@@ -56,6 +56,10 @@ impl Model for Subgraph {
 }
 
 /// The problem of a pattern of at most 64 vertices and a target of at most 1,024.
+///
+/// # Errors
+///
+/// `Memory` where memory ran out.
 pub fn pair(alloc: Global, pattern: Graph, target: Graph) -> Result<Subgraph, Memory>
     requires pattern { vertex_count pattern ≤ 64 }
     requires target { vertex_count target ≤ 1024 }

@@ -42,6 +42,10 @@ impl Subgraph {
 
     /// The text of the decision: the line `yes` and the line `map` with the images of the pattern's vertices 0, 1, 2 and so
     /// on, where a node of worth 1 is given, and the line `no` where none is.
+    ///
+    /// # Errors
+    ///
+    /// `Memory` where memory ran out.
     pub fn reach_text(&self, alloc: Global, node: Option<&MapNode>) -> Result<Vec<u8>, Memory>
         requires root { IsNode self.now (root_of self.now) }
         requires node { ForSome node (λ n. IsNode self.now n.now) }

@@ -30,6 +30,10 @@ fn child_at<P: Problem>(
 }
 
 /// The node of the tree at a path, or `None` exactly where the tree has no such path.
+///
+/// # Errors
+///
+/// `Memory` where memory ran out.
 pub fn rebuild<P: Problem>(
     alloc: Global,
     problem: &P,

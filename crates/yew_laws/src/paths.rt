@@ -30,6 +30,10 @@ impl Model for Path {
 
 impl Path {
     /// The path of the root, with a space of at least `space`.
+    ///
+    /// # Errors
+    ///
+    /// `Memory` where memory ran out.
     pub fn empty(alloc: Global, space: u32) -> Result<Path, Memory>
         ensures numbers { IfOk result (λ path. path.numbers ≡ []) }
         ensures space { IfOk result (λ path. space ≤ path.space) }
@@ -42,6 +46,10 @@ impl Path {
     }
 
     /// The path of child `number` of the node at this path. It has this path's space, or one more where that is full.
+    ///
+    /// # Errors
+    ///
+    /// `Memory` where memory ran out.
     pub fn child(&self, number: u32) -> Result<Path, Memory>
         ensures numbers { IfOk result (λ path. path.numbers ≡ self.now.numbers ++ number ∷ []) }
         ensures space { IfOk result (λ path. self.now.space ≤ path.space) }
@@ -83,6 +91,10 @@ impl Path {
     }
 
     /// The path of child `number` of the node at the first `depth` steps of this path.
+    ///
+    /// # Errors
+    ///
+    /// `Memory` where memory ran out.
     pub fn child_of_prefix(&self, depth: usize, number: u32) -> Result<Path, Memory>
         requires { depth ≤ length self.now.numbers }
         ensures { IfOk result (λ path. path.numbers ≡ take depth self.now.numbers ++ number ∷ []) }
@@ -96,6 +108,10 @@ impl Path {
     }
 
     /// Makes room for one more step. The numbers stay.
+    ///
+    /// # Errors
+    ///
+    /// `Memory` where memory ran out. The space is then unchanged.
     #[inline(always)]
     pub fn make_room(&mut self) -> Result<(), Memory>
         ensures numbers { self.new.numbers ≡ self.old.numbers }
@@ -117,7 +133,7 @@ impl Path {
         ensures numbers { self.new.numbers ≡ self.old.numbers ++ number ∷ [] }
         ensures space { self.new.space ≡ self.old.space }
     {
-        self.steps.push(number).unwrap();
+        self.steps.push_reserved(number);
     }
 
     /// Puts `number` in place of the last step: this path becomes that of another child of the same node. The space stays,

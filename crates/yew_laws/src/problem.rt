@@ -54,18 +54,29 @@ pub trait Problem: Sync {
     ghost countable: { (problem : Self) (node : Self.Node) → sound problem node → length (children problem node) + 1 < 2 ^ 32 };
 
     /// The root.
+    ///
+    /// # Errors
+    ///
+    /// `Memory` where memory ran out.
     fn root(&self, alloc: Global) -> Result<Self::Node, Memory>
         requires { sound self.now (root self.now) }
         ensures { IfOk result (λ node. node ≡ root self.now) };
 
     /// The generator of a node's children.
+    ///
+    /// # Errors
+    ///
+    /// `Memory` where memory ran out.
     fn open(&self, alloc: Global, node: Self::Node) -> Result<Self::Kids, Memory>
         requires root { sound self.now (root self.now) }
         requires node { sound self.now node }
         ensures { IfOk result (λ kids. remaining self.now kids ≡ children self.now node) };
 
-    /// The next child, which the generator then no longer has, or `None` where it has none left. After `Memory` it
-    /// still has all that it had.
+    /// The next child, which the generator then no longer has, or `None` where it has none left.
+    ///
+    /// # Errors
+    ///
+    /// `Memory` where memory ran out. The generator then has all that it had.
     fn next(&self, alloc: Global, kids: &mut Self::Kids) -> Result<Option<Self::Node>, Memory>
         requires root { sound self.now (root self.now) }
         requires kids { AllByRecursion (sound self.now) (remaining self.now kids.old) }

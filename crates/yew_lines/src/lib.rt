@@ -11,6 +11,10 @@ use itoa::Buffer;
 use yew_laws::Memory;
 
 /// Appends these bytes.
+///
+/// # Errors
+///
+/// `Memory` where memory ran out.
 #[inline]
 pub fn push_text(out: &mut Vec<u8>, text: &[u8]) -> Result<(), Memory>
     ensures { OnOk result (out.new.items ≡ out.old.items ++ text.now) }
@@ -20,6 +24,10 @@ pub fn push_text(out: &mut Vec<u8>, text: &[u8]) -> Result<(), Memory>
 }
 
 /// Appends a number in decimal.
+///
+/// # Errors
+///
+/// `Memory` where memory ran out.
 pub fn push_number(out: &mut Vec<u8>, number: u64) -> Result<(), Memory>
     ensures { OnOk result (out.new.items ≡ out.old.items ++ decimal number) }
 {
@@ -29,6 +37,10 @@ pub fn push_number(out: &mut Vec<u8>, number: u64) -> Result<(), Memory>
 }
 
 /// Appends a space and a number in decimal.
+///
+/// # Errors
+///
+/// `Memory` where memory ran out.
 pub fn push_spaced(out: &mut Vec<u8>, number: u64) -> Result<(), Memory>
     ensures { OnOk result (out.new.items ≡ out.old.items ++ spaced number) }
 {
@@ -37,6 +49,10 @@ pub fn push_spaced(out: &mut Vec<u8>, number: u64) -> Result<(), Memory>
 }
 
 /// Appends a count: in decimal, with `>=` in front where it stands at 2^64 - 1, where it may be more.
+///
+/// # Errors
+///
+/// `Memory` where memory ran out.
 pub fn push_count(out: &mut Vec<u8>, count: u64) -> Result<(), Memory>
     ensures { OnOk result (out.new.items ≡ out.old.items ++ count_text count) }
 {
@@ -47,6 +63,10 @@ pub fn push_count(out: &mut Vec<u8>, count: u64) -> Result<(), Memory>
 }
 
 /// Ends a line.
+///
+/// # Errors
+///
+/// `Memory` where memory ran out.
 #[inline]
 pub fn push_line_end(out: &mut Vec<u8>) -> Result<(), Memory>
     ensures { OnOk result (out.new.items ≡ out.old.items ++ 10 ∷ []) }
@@ -56,6 +76,10 @@ pub fn push_line_end(out: &mut Vec<u8>) -> Result<(), Memory>
 }
 
 /// Appends a line of a word and of numbers, each after one space. A line without numbers has no space at its end.
+///
+/// # Errors
+///
+/// `Memory` where memory ran out.
 pub fn push_numbers_line(out: &mut Vec<u8>, word: &[u8], numbers: &[u64]) -> Result<(), Memory>
     ensures { OnOk result (out.new.items ≡ out.old.items ++ numbers_line word.now numbers.now) }
 {

@@ -25,12 +25,13 @@ abbrev pub HasRoom : Option (List Note) → List ℕ → Type 0
 HasRoom None path = Unit {0}
 HasRoom (Some notes) path = Fits path notes
 
--- a log without room, and the two numbers that say so
+-- a log without room, and the two numbers that say so, which are within its limits
 pub record IsFull (told : Option (List Note)) (path : List ℕ) (entries numbers : ℕ) : Type 0 where
   pub notes : List Note
   pub are_told : told ≡ Some notes
   pub entries_are : entries ≡ length notes
   pub numbers_are : numbers ≡ path_numbers notes
+  pub within : (entries ≤ 2 ^ 18) × (numbers ≤ 2 ^ 22)
   pub past : (2 ^ 18 ≤ entries) ⊎ (2 ^ 22 < numbers + length path)
 
 -- a fact of the two numbers of the answer Full

@@ -26,14 +26,22 @@ pub trait Recorder: Send + Drop {
     ghost number: { Self → ℕ };
 
     /// The log of a worker, counted from 1, that has recorded nothing.
+    ///
+    /// # Errors
+    ///
+    /// `Memory` where memory ran out.
     fn fresh(alloc: Global, worker: u32) -> Result<Self, Memory>
         ensures told { IfOk result (λ log. IfSome (told log) (λ notes. notes ≡ [])) }
         ensures totals { IfOk result (λ log. totals log ≡ no_totals) }
         ensures worker { IfOk result (λ log. number log ≡ worker) };
 
     /// Records what happened at a path. The two numbers are the worth and the held value of a visit, or the bound and
-    /// the held value of a cut; for the other kinds they are ignored. `Full` comes exactly where the log has no room
-    /// for the path, with its numbers of entries and of path numbers. After `Full` or `Memory` the log is unchanged.
+    /// the held value of a cut; for the other kinds they are ignored.
+    ///
+    /// # Errors
+    ///
+    /// `Full` exactly where the log has no room for the path, with its numbers of entries and of path numbers, which are
+    /// within the limits of a log; and `Memory` where memory ran out. The log is then unchanged.
     fn note(&mut self, what: What, path: &Path, first: u64, second: u64) -> Result<(), LogEnd>
         ensures told { OnOk result (told self.new ≡ option_map (λ notes. notes ++ note_of what path.now.numbers first second ∷ []) (told self.old)) }
         ensures totals { OnOk result (totals self.new ≡ next_totals (totals self.old) what) }

@@ -14,6 +14,10 @@ use yew_lines::{push_line_end, push_number, push_spaced, push_text};
 /// The audit of the logs of workers 1, 2, 3 and so on: a line `audit 1`; for each worker a line `worker K` and a line
 /// for each of its entries, in order; a line `done`. A path is written with `/` before each number, and that of the
 /// root as `/`.
+///
+/// # Errors
+///
+/// `Memory` where memory ran out.
 pub fn audit_text(alloc: Global, logs: &[Full]) -> Result<Vec<u8>, Memory>
     ensures { IfOk result (λ text. text.items ≡ text_of_logs (map (λ log. log.notes) logs.now)) }
 {

@@ -24,6 +24,10 @@ use yew_words::Made;
 
 /// The text of the instance of this kind, seed and size. The size is the number of items, from 1 to 256, the number of
 /// cities, from 2 to 60, or the number of vertices, from 0 to 1024.
+///
+/// # Errors
+///
+/// `Memory` where memory ran out.
 pub fn make_text(alloc: Global, made: Made, seed: u64, size: u32) -> Result<Vec<u8>, Memory>
     requires { IsSizeFor made size }
     ensures { IfOk result (λ text. text.items ≡ made_text made seed size) }

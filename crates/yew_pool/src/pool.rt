@@ -238,6 +238,10 @@ impl<N: Drop> Pool<N> {
     }
 
     /// Adds a task to the deque of the pass. A refusal hands the task back and changes nothing.
+    ///
+    /// # Errors
+    ///
+    /// `Refused`, with the task, where memory ran out.
     pub fn put(&self, pass: &mut PoolPass<N>, task: Task<N>) -> Result<(), Refused<N>>
         requires pool { pass.old.pool ≡ self.now }
         requires sound { IsSoundFor IsAmong pass.old.members task }

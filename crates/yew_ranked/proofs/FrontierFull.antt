@@ -33,6 +33,7 @@ module _ {N : Type 0} (t : SearchTree N) {sound : N → Type 0} (is_ranked : IsR
           are_told = refl;
           entries_are = is.full.entries_are ∙ ap length told-all;
           numbers_are = is.full.numbers_are ∙ ap path_numbers told-all;
+          within = is.full.within;
           past = is.full.past;
         };
         in_tree = known.of_tree;

@@ -64,6 +64,7 @@ module _ {N : Type 0} (t : SearchTree N) (depth workers number : ℕ) (tells : T
               are_told = refl;
               entries_are = full.entries_are ∙ ap length same;
               numbers_are = full.numbers_are ∙ ap path_numbers same;
+              within = full.within;
               past = full.past;
             };
             in_tree = all-front (λ note. IsSome (at_path t (path_of note))) (notes ++ next ∷ []) more (subst (AllByRecursion (λ note. IsSome (at_path t (path_of note)))) front with_ahead.in_tree);

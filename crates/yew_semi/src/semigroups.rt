@@ -24,7 +24,8 @@ impl Semigroups {
     /// The semigroups of at most this genus.
     pub fn new(genus: u32) -> Semigroups
         requires { genus ≤ 40 }
-        ensures { result.genus ≡ genus }
+        ensures genus { result.genus ≡ genus }
+        ensures root { IsSemigroup result.genus [] }
     {
         Semigroups { genus }
     }

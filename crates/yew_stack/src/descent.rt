@@ -170,20 +170,28 @@ impl<P: Problem> Descent<P> {
         &self.path
     }
 
-    /// Adds the level of the node at which the descent stands, of which nothing is given yet. After `Memory` the levels
-    /// are unchanged.
+    /// Adds the level of the node at which the descent stands, of which nothing is given yet.
+    ///
+    /// # Errors
+    ///
+    /// `Memory` where memory ran out. The levels are then unchanged.
     #[inline(always)]
     pub fn open(&mut self, kids: P::Kids) -> Result<(), Memory>
         ensures ok { OnOk result (self.new.levels ≡ self.old.levels ++ record { parent = self.old.path; given = 0; kids = kids } ∷ []) }
         ensures err { OnErr result (self.new.levels ≡ self.old.levels) }
     {
         self.path.make_room()?;
-        self.rungs.push(Rung { given: 0, kids })?;
+        self.rungs.reserve(1)?;
+        self.rungs.push_reserved(Rung { given: 0, kids });
         self.path.push(0);
         Ok(())
     }
 
-    /// The next node of the highest level, or the end of that level. After `Memory` the levels are unchanged.
+    /// The next node of the highest level, or the end of that level.
+    ///
+    /// # Errors
+    ///
+    /// `Memory` where memory ran out. The levels are then unchanged.
     #[inline(always)]
     pub fn next(&mut self, alloc: Global, problem: &P) -> Result<Step<P::Node>, Memory>
         requires root { P.sound problem.now (P.root problem.now) }
@@ -210,8 +218,11 @@ impl<P: Problem> Descent<P> {
     }
 
     /// Moves nodes of the lowest level that has any to come, to the end of a list of tasks: its next node, or all its
-    /// nodes in order. Where no level has any, nothing is moved. After `Memory` the list has the tasks that were moved,
-    /// and the levels lack exactly these. The descent stays at its path.
+    /// nodes in order. Where no level has any, nothing is moved. The descent stays at its path.
+    ///
+    /// # Errors
+    ///
+    /// `Memory` where memory ran out. The list then has the tasks that were moved, and the levels lack exactly these.
     pub fn split_lowest(
         &mut self,
         alloc: Global,

@@ -62,7 +62,11 @@ impl<P: Problem> GenStack<P> {
         }
     }
 
-    /// Adds a level on top, of which nothing is given yet. After `Memory` the levels are unchanged.
+    /// Adds a level on top, of which nothing is given yet.
+    ///
+    /// # Errors
+    ///
+    /// `Memory` where memory ran out. The levels are then unchanged.
     #[inline(always)]
     pub fn push_level(&mut self, path: Path, kids: P::Kids) -> Result<(), Memory>
         ensures ok { OnOk result (self.new ≡ self.old ++ record { parent = path.numbers; given = 0; kids = kids } ∷ []) }
@@ -85,7 +89,11 @@ impl<P: Problem> GenStack<P> {
         keep_spare(&mut self.spares, path);
     }
 
-    /// The next node of the top level, or the end of that level. After `Memory` the levels are unchanged.
+    /// The next node of the top level, or the end of that level.
+    ///
+    /// # Errors
+    ///
+    /// `Memory` where memory ran out. The levels are then unchanged.
     #[inline(always)]
     pub fn next(&mut self, alloc: Global, problem: &P) -> Result<Turn<P>, Memory>
         requires root { P.sound problem.now (P.root problem.now) }
@@ -110,8 +118,11 @@ impl<P: Problem> GenStack<P> {
     }
 
     /// Moves nodes of the lowest level that has any to come, to the end of a list of tasks: its next node, or all its
-    /// nodes in order. Where no level has any, nothing is moved. After `Memory` the list has the tasks that were moved,
-    /// and the levels lack exactly these.
+    /// nodes in order. Where no level has any, nothing is moved.
+    ///
+    /// # Errors
+    ///
+    /// `Memory` where memory ran out. The list then has the tasks that were moved, and the levels lack exactly these.
     pub fn split_lowest(
         &mut self,
         alloc: Global,

@@ -124,6 +124,8 @@ impl<'a> Cursor<'a> {
 
     /// Reads the next word as a decimal number of at most 2^63 - 1. Zeros may lead it.
     ///
+    /// # Errors
+    ///
     /// A fault leaves the cursor where it stands: `EndsEarly` with the line of the end where no word is left;
     /// with the line of the word, `NotNumber` where it has a byte that is no digit, and `TooBig` where it is
     /// digits whose value is past 2^63 - 1.
@@ -167,7 +169,9 @@ impl<'a> Cursor<'a> {
 
     /// Asks that only white space is left, and leaves the cursor where it stands.
     ///
-    /// It answers `Surplus` with the line of the next word exactly where a word is left.
+    /// # Errors
+    ///
+    /// `Surplus` with the line of the next word exactly where a word is left.
     pub fn end(&mut self) -> Result<(), TextFault>
         ensures ends { Ends self.old result }
         ensures stays { self.new ≡ self.old }

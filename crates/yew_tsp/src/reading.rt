@@ -146,9 +146,11 @@ fn read_numbers(
 
 /// The problem of a TSPLIB 95 file.
 ///
-/// It answers `Refused` with the first offence of a file that is not in its grammar, and of one that is, `TooLarge` with
+/// # Errors
+///
+/// `Refused` with the first offence of a file that is not in its grammar, and of one that is, `TooLarge` with
 /// the first number past its limit: 60 cities, and 2^31 - 1 for each number of the matrix, those of the diagonal
-/// included, which have no other meaning.
+/// included, which have no other meaning. `Memory` where memory ran out.
 pub fn read(alloc: Global, bytes: &[u8]) -> Result<Tours, FileEnd>
     ensures file { IfOk result (λ problem. IsTourFile bytes.now problem) }
     ensures none_past { IfOk result (λ problem. HasNonePast bytes.now) }

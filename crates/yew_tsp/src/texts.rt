@@ -30,6 +30,10 @@ impl Tours {
     /// The text of the shortest tour: the line `best L`, and the line `tour` with the cities in order from city 1 on.
     ///
     /// It takes a node with its worth, which is at least 1: that of a list of all cities, 2^37 less the length L.
+    ///
+    /// # Errors
+    ///
+    /// `Memory` where memory ran out.
     pub fn best_text(&self, alloc: Global, worth: u64, node: &TourNode) -> Result<Vec<u8>, Memory>
         requires root { IsNode self.now (root_of self.now) }
         requires node { IsNode self.now node.now }

@@ -140,6 +140,7 @@ module _ {S N K Sum : Type 0} (meaning : Ghosts S N K) (problem : S) (keying : K
               are_told = refl;
               entries_are = f.entries_are ∙ ap length same;
               numbers_are = f.numbers_are ∙ ap path_numbers same;
+              within = f.within;
               past = f.past;
             } in (
               tells-of (subst IsSome (sym f.are_told) refl),

@@ -64,7 +64,11 @@ pub trait Outlet<P: Problem> {
         ensures later { later self.old self.new }
         ensures goes { goes self.old (was_asked result ∷ []) self.new };
 
-    /// Sends tasks, of which there may be none. After `Memory` a part of them was sent.
+    /// Sends tasks, of which there may be none.
+    ///
+    /// # Errors
+    ///
+    /// `Memory` where memory ran out. A part of the tasks was then sent.
     fn send(&mut self, tasks: Vec<Task<P::Node>>) -> Result<(), Memory>
         requires { AllByRecursion (λ task. IsTask P.Problem (problem self.old) task.path.numbers task.node) tasks.items }
         ensures ok { OnOk result (SameBag (sent self.new) (sent self.old ++ tasks.items)) }

@@ -195,8 +195,12 @@ fn reach<P: Problem, S: Drop, R: Recorder>(
 /// is held by no more than the gap, and answers the greatest worth that it visits, with the first path that has it: the
 /// greatest worth of all nodes is at most that worth and the gap together, and is 0 where it is 0. A gap is from 0 to 2^40 - 2.
 ///
-/// Its one log is that of worker 1, and its entries and totals are those of the one sequential log. `AuditFull` comes
-/// exactly where that log meets the limits of a log that tells its entries; `TooManyTasks` never comes.
+/// Its one log is that of worker 1, and its entries and totals are those of the one sequential log.
+///
+/// # Errors
+///
+/// `Memory` where memory ran out, and `AuditFull` exactly where that log meets the limits of a log that tells its entries.
+/// `TooManyTasks` never comes.
 pub fn search_plain<P: Problem, T: Tally<P::Node>, R: Recorder>(
     alloc: Global,
     problem: &P,

@@ -247,9 +247,13 @@ fn walk_by<P: Problem, Q: Policy, O: Outlet<P>, T: Tally<P::Node>, R: Recorder>(
 /// for it, and sent to the outlet. Each step is recorded.
 ///
 /// A visited node is noted by the tally, and the hand keeps the greatest key of a visited node that is an answer, with
-/// its path. `AuditFull` comes where the log has no room for the next entry, and `TooManyTasks` never.
+/// its path.
 ///
 /// The kinds of keys are told apart once, before the first node.
+///
+/// # Errors
+///
+/// `Memory` where memory ran out, and `AuditFull` where the log has no room for the next entry. `TooManyTasks` never comes.
 pub fn walk<P: Problem, Q: Policy, O: Outlet<P>, T: Tally<P::Node>, R: Recorder>(
     alloc: Global,
     problem: &P,

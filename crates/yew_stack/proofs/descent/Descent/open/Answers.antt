@@ -4,10 +4,6 @@ use Rattle.yew_stack.specs.Descents.{levels_along}
 use Rattle.yew_stack.proofs.Along.{along-push, along-same, take-front}
 use Rattle.yew_stack.proofs.descent.Descent.open.Goals as goal
 
-pub invariant_of-self-in_err-push : goal.invariant_of-self-in_err-push
-invariant_of-self-in_err-push g c =
-    omega (arith, c.self.invariant, ap length c.make_room.ensures.numbers, ap length c.in_err-push.ensures.items)
-
 pub returns-clause-ok : goal.returns-clause-ok
 returns-clause-ok g c =
     let rungs = c.self.inside.rungs.items in
@@ -16,7 +12,7 @@ returns-clause-ok g c =
     let depth = first + length rungs in
     let whole : take depth path ≡ path = take_all depth path (omega (arith, c.self.invariant)) in
     let front : take depth (path ++ 0 ∷ []) ≡ take depth path = ap (λ p. take depth (p ++ 0 ∷ [])) (sym whole) ∙ take-front depth path (0 ∷ []) (omega (arith, c.self.invariant)) in
-    ap₂ (λ p rs. levels_along p first rs) (c.push-2.ensures.numbers ∙ ap (λ p. p ++ 0 ∷ []) c.make_room.ensures.numbers) c.in_ok-push.ensures.items
+    ap₂ (λ p rs. levels_along p first rs) (c.push.ensures.numbers ∙ ap (λ p. p ++ 0 ∷ []) c.make_room.ensures.numbers) (c.push_reserved.ensures.items ∙ ap (λ rs. rs ++ record { given = 0; kids = c.args.kids } ∷ []) c.reserve.ensures.items)
     ∙ along-same (path ++ 0 ∷ []) path depth first (rungs ++ record { given = 0; kids = c.args.kids } ∷ []) front (omega (arith, length-append rungs (record { given = 0; kids = c.args.kids } ∷ [])))
     ∙ along-push path first rungs (record { given = 0; kids = c.args.kids })
     ∙ ap₂ (λ ls p. ls ++ record { parent = p; given = 0; kids = c.args.kids } ∷ []) (ap (λ v. v.levels) c.self.view_is) (whole ∙ ap (λ v. v.path) c.self.view_is)
