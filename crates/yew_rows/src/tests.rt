@@ -5,6 +5,7 @@ mod judging;
 mod meeting;
 mod ordered;
 mod refusing;
+mod stopping;
 mod totals;
 mod trees;
 

@@ -12,7 +12,7 @@ use yew_ranked::search_ordered;
 use yew_walk::Found;
 
 /// The file of the four items.
-const FOUR: &[u8] = b"4 10\n10 5\n40 4\n30 6\n50 3\n";
+pub(super) const FOUR: &[u8] = b"4 10\n10 5\n40 4\n30 6\n50 3\n";
 
 /// Whether the answer is the worth 91, of the items 4 and 2, with the path 0, 0.
 fn is_best(answer: &Answer<()>) -> bool {
