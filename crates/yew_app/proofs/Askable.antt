@@ -40,6 +40,7 @@ of-job jobs.Knapsack skeleton workers of_job number range = searching problems.K
 of-job jobs.Tsp skeleton workers of_job number range = searching problems.Tsp skeleton workers number range
 of-job jobs.Subgraph skeleton workers of_job number range = searching problems.Subgraph skeleton workers number range
 of-job jobs.Semigroups skeleton workers of_job number range = searching problems.Semigroups skeleton workers number range
+of-job jobs.Flow skeleton workers of_job number range = searching problems.Flow skeleton workers number range
 of-job (jobs.Make kind) skeleton workers of_job number range = making skeleton workers of_job range
 
 pub within-askable : (plan : Planned) → IsWithin plan → IsAskable (asked_of plan)

@@ -4,11 +4,13 @@ use Rattle.std.proofs.lemmas.Option.{same_Some}
 use Rattle.yew_text.specs.declared.text.FileEnd.{FileEnd}
 use Rattle.yew_text.specs.declared.text.FileEnd.TheVariants as ends
 use Rattle.yew_text.specs.Grammar.{Limited, first_past}
+use Rattle.yew_flow.specs.Files as flow
 use Rattle.yew_knap.specs.Instance.{Instance}
 use Rattle.yew_knap.specs.Files as knap
 use Rattle.yew_lad.specs.Digraphs.{vertex_count}
 use Rattle.yew_lad.specs.Files as lad
 use Rattle.yew_tsp.specs.Files as tsp
+use Rattle.yew_app.specs.FlowShops.{IsGoodFlow}
 use Rattle.yew_app.specs.Knapsacks.{IsGoodKnapsack}
 use Rattle.yew_app.specs.ShortestTours.{IsGoodTours}
 use Rattle.yew_app.specs.Subgraphs.{IsGoodGraph}
@@ -76,3 +78,13 @@ pub graph_end : (most : ℕ) (bytes : List ℕ) (end : FileEnd) → lad.EndsRead
 graph_end most bytes (ends.Refused fault) is = is
 graph_end most bytes (ends.TooLarge number limit) is = is
 graph_end most bytes ends.Memory is = is
+
+pub flow_laws : flow.FileLaws → KindLaws IsGoodFlow flow.IsFlowOffence flow.IsPastLimit
+flow_laws laws = record {
+  one_kind = laws.one_kind;
+  one_line = laws.one_line;
+  one_past = laws.one_past;
+  good_no_offence = λ bytes value kind line good. laws.not_both bytes value kind line good.is_file;
+  good_none_past = λ bytes value number limit good. laws.none_past bytes number limit good.none_past;
+  past_no_offence = λ bytes number limit kind line p. laws.not_both bytes p.instance kind line p.is_file;
+}

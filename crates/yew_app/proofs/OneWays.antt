@@ -4,6 +4,7 @@ use Rattle.std.proofs.Props.{props}
 use mathlib.Core.HLevel.{Σ_prop_path}
 use Rattle.std.proofs.lemmas.Option.{same_Some}
 use Rattle.yew_io.specs.Shelf.{File}
+use Rattle.yew_flow.specs.Files as flow
 use Rattle.yew_knap.specs.Files as knap
 use Rattle.yew_lad.specs.Digraphs.{Digraph, GraphPair}
 use Rattle.yew_lad.specs.Files as lad
@@ -16,6 +17,7 @@ use Rattle.yew_words.specs.Plans.{Planned}
 use Rattle.yew_words.specs.Ranges.{file_count_of}
 use Rattle.yew_words.specs.Word.{Word}
 use Rattle.yew_app.specs.declared.knapsack.Goal.{Goal}
+use Rattle.yew_app.specs.FlowShops.{IsGoodFlow, flow_meaning}
 use Rattle.yew_app.specs.Jobs.{of_job}
 use Rattle.yew_app.specs.Judging.{IsRead, IsRefusedFile}
 use Rattle.yew_app.specs.Knapsacks.{IsGoodKnapsack, goal_of, knapsack_meaning}
@@ -24,7 +26,7 @@ use Rattle.yew_app.specs.Refusals.{Reason}
 use Rattle.yew_app.specs.Semigroups.{semigroups_meaning}
 use Rattle.yew_app.specs.ShortestTours.{IsGoodTours, tours_meaning}
 use Rattle.yew_app.specs.Subgraphs.{IsGoodGraph, ReadsPair, maps_meaning}
-use Rattle.yew_app.proofs.FileKinds.{knapsack_laws, tour_laws, graph_laws}
+use Rattle.yew_app.proofs.FileKinds.{knapsack_laws, tour_laws, graph_laws, flow_laws}
 use Rattle.yew_app.proofs.FileReasons.{one_reason_of_file, read_not_refused}
 
 -- a file of a name says one value
@@ -46,6 +48,13 @@ tours-one_way laws name gap = record {
   one_instance = λ told. one-read IsGoodTours (λ bytes a b p q. laws.one_instance bytes a b p.is_file q.is_file) told name;
   one_reason = λ told. one_reason_of_file IsGoodTours tsp.IsTourOffence tsp.IsPastLimit (tour_laws laws) told name;
   not_both = λ told. read_not_refused IsGoodTours tsp.IsTourOffence tsp.IsPastLimit (tour_laws laws) told name;
+}
+
+flow-one_way : flow.FileLaws → (name : Word) (gap : Option ℕ) → IsOneWay (flow_meaning name gap)
+flow-one_way laws name gap = record {
+  one_instance = λ told. one-read IsGoodFlow (λ bytes a b p q. laws.one_instance bytes a b p.is_file q.is_file) told name;
+  one_reason = λ told. one_reason_of_file IsGoodFlow flow.IsFlowOffence flow.IsPastLimit (flow_laws laws) told name;
+  not_both = λ told. read_not_refused IsGoodFlow flow.IsFlowOffence flow.IsPastLimit (flow_laws laws) told name;
 }
 
 module _ (laws : lad.FileLaws) (pattern target : Word) where
@@ -97,20 +106,23 @@ semigroups-one_way genus = record {
 }
 
 -- so are those of each job
-pub job-one_way : knap.FileLaws → tsp.FileLaws → lad.FileLaws → (job : Job) (names : List Word) (plan : Planned) → length names ≡ file_count_of job → of_job job names plan (λ kind. Unit {0}) (λ X N m. IsOneWay m)
-job-one_way knap tsp lad jobs.Knapsack [] plan e = absurd (cc)
-job-one_way knap tsp lad jobs.Knapsack (name ∷ []) plan e = knapsack-one_way knap name (goal_of plan.target plan.gap)
-job-one_way knap tsp lad jobs.Knapsack (name ∷ second ∷ names) plan e = absurd (omega (arith, e))
-job-one_way knap tsp lad jobs.Tsp [] plan e = absurd (cc)
-job-one_way knap tsp lad jobs.Tsp (name ∷ []) plan e = tours-one_way tsp name plan.gap
-job-one_way knap tsp lad jobs.Tsp (name ∷ second ∷ names) plan e = absurd (omega (arith, e))
-job-one_way knap tsp lad jobs.Subgraph [] plan e = absurd (cc)
-job-one_way knap tsp lad jobs.Subgraph (name ∷ []) plan e = absurd (omega (arith, e))
-job-one_way knap tsp lad jobs.Subgraph (pattern ∷ target ∷ []) plan e = maps-one_way lad pattern target
-job-one_way knap tsp lad jobs.Subgraph (name ∷ second ∷ third ∷ names) plan e = absurd (omega (arith, e))
-job-one_way knap tsp lad jobs.Semigroups [] plan e = semigroups-one_way plan.genus
-job-one_way knap tsp lad jobs.Semigroups (name ∷ names) plan e = absurd (omega (arith, e))
-job-one_way knap tsp lad (jobs.Make kind) [] plan e = tt
-job-one_way knap tsp lad (jobs.Make made.Knapsack) (name ∷ names) plan e = absurd (omega (arith, e))
-job-one_way knap tsp lad (jobs.Make made.Tsp) (name ∷ names) plan e = absurd (omega (arith, e))
-job-one_way knap tsp lad (jobs.Make made.Lad) (name ∷ names) plan e = absurd (omega (arith, e))
+pub job-one_way : knap.FileLaws → tsp.FileLaws → lad.FileLaws → flow.FileLaws → (job : Job) (names : List Word) (plan : Planned) → length names ≡ file_count_of job → of_job job names plan (λ kind. Unit {0}) (λ X N m. IsOneWay m)
+job-one_way knap tsp lad flow jobs.Knapsack [] plan e = absurd (cc)
+job-one_way knap tsp lad flow jobs.Knapsack (name ∷ []) plan e = knapsack-one_way knap name (goal_of plan.target plan.gap)
+job-one_way knap tsp lad flow jobs.Knapsack (name ∷ second ∷ names) plan e = absurd (omega (arith, e))
+job-one_way knap tsp lad flow jobs.Tsp [] plan e = absurd (cc)
+job-one_way knap tsp lad flow jobs.Tsp (name ∷ []) plan e = tours-one_way tsp name plan.gap
+job-one_way knap tsp lad flow jobs.Tsp (name ∷ second ∷ names) plan e = absurd (omega (arith, e))
+job-one_way knap tsp lad flow jobs.Subgraph [] plan e = absurd (cc)
+job-one_way knap tsp lad flow jobs.Subgraph (name ∷ []) plan e = absurd (omega (arith, e))
+job-one_way knap tsp lad flow jobs.Subgraph (pattern ∷ target ∷ []) plan e = maps-one_way lad pattern target
+job-one_way knap tsp lad flow jobs.Subgraph (name ∷ second ∷ third ∷ names) plan e = absurd (omega (arith, e))
+job-one_way knap tsp lad flow jobs.Semigroups [] plan e = semigroups-one_way plan.genus
+job-one_way knap tsp lad flow jobs.Semigroups (name ∷ names) plan e = absurd (omega (arith, e))
+job-one_way knap tsp lad flow jobs.Flow [] plan e = absurd (cc)
+job-one_way knap tsp lad flow jobs.Flow (name ∷ []) plan e = flow-one_way flow name plan.gap
+job-one_way knap tsp lad flow jobs.Flow (name ∷ second ∷ names) plan e = absurd (omega (arith, e))
+job-one_way knap tsp lad flow (jobs.Make kind) [] plan e = tt
+job-one_way knap tsp lad flow (jobs.Make made.Knapsack) (name ∷ names) plan e = absurd (omega (arith, e))
+job-one_way knap tsp lad flow (jobs.Make made.Tsp) (name ∷ names) plan e = absurd (omega (arith, e))
+job-one_way knap tsp lad flow (jobs.Make made.Lad) (name ∷ names) plan e = absurd (omega (arith, e))

@@ -43,6 +43,7 @@ map-job jobs.Knapsack (name ∷ []) plan A B K L made by a = by _ _ _ a
 map-job jobs.Tsp (name ∷ []) plan A B K L made by a = by _ _ _ a
 map-job jobs.Subgraph (pattern ∷ target ∷ []) plan A B K L made by a = by _ _ _ a
 map-job jobs.Semigroups [] plan A B K L made by a = by _ _ _ a
+map-job jobs.Flow (name ∷ []) plan A B K L made by a = by _ _ _ a
 map-job (jobs.Make kind) [] plan A B K L made by a = made kind a
 map-job jobs.Knapsack [] plan A B K L made by a = absurd a
 map-job jobs.Knapsack (name ∷ second ∷ names) plan A B K L made by a = absurd a
@@ -52,6 +53,8 @@ map-job jobs.Subgraph [] plan A B K L made by a = absurd a
 map-job jobs.Subgraph (name ∷ []) plan A B K L made by a = absurd a
 map-job jobs.Subgraph (name ∷ second ∷ third ∷ names) plan A B K L made by a = absurd a
 map-job jobs.Semigroups (name ∷ names) plan A B K L made by a = absurd a
+map-job jobs.Flow [] plan A B K L made by a = absurd a
+map-job jobs.Flow (name ∷ second ∷ names) plan A B K L made by a = absurd a
 map-job (jobs.Make kind) (name ∷ names) plan A B K L made by a = absurd a
 
 module _ (told : List File) where

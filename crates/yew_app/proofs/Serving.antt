@@ -155,6 +155,7 @@ meet-job jobs.Knapsack (name ∷ []) plan A B C K L M made by a b c = by _ _ _ a
 meet-job jobs.Tsp (name ∷ []) plan A B C K L M made by a b c = by _ _ _ a b c
 meet-job jobs.Subgraph (pattern ∷ target ∷ []) plan A B C K L M made by a b c = by _ _ _ a b c
 meet-job jobs.Semigroups [] plan A B C K L M made by a b c = by _ _ _ a b c
+meet-job jobs.Flow (name ∷ []) plan A B C K L M made by a b c = by _ _ _ a b c
 meet-job (jobs.Make kind) [] plan A B C K L M made by a b c = made kind a b c
 meet-job jobs.Knapsack [] plan A B C K L M made by a b c = absurd a
 meet-job jobs.Knapsack (name ∷ second ∷ names) plan A B C K L M made by a b c = absurd a
@@ -164,6 +165,8 @@ meet-job jobs.Subgraph [] plan A B C K L M made by a b c = absurd a
 meet-job jobs.Subgraph (name ∷ []) plan A B C K L M made by a b c = absurd a
 meet-job jobs.Subgraph (name ∷ second ∷ third ∷ names) plan A B C K L M made by a b c = absurd a
 meet-job jobs.Semigroups (name ∷ names) plan A B C K L M made by a b c = absurd a
+meet-job jobs.Flow [] plan A B C K L M made by a b c = absurd a
+meet-job jobs.Flow (name ∷ second ∷ names) plan A B C K L M made by a b c = absurd a
 meet-job (jobs.Make kind) (name ∷ names) plan A B C K L M made by a b c = absurd a
 
 module _ (does : Skeleton → Type 0) (words : List Word) (plan : Planned) (is_plan : IsPlanOf does words plan) where

@@ -1,5 +1,7 @@
 -- What each job means, by its plan.
 use Rattle.std.specs.Prelude.{ℕ, List, [], ◌∷◌}
+use Rattle.yew_flow.specs.declared.nodes.FlowNode.{FlowNode}
+use Rattle.yew_flow.specs.Instance.{Instance as FlowShop}
 use Rattle.yew_knap.specs.declared.nodes.KnapNode.{KnapNode}
 use Rattle.yew_knap.specs.Instance.{Instance as Knapsack}
 use Rattle.yew_lad.specs.Digraphs.{GraphPair}
@@ -11,6 +13,7 @@ use Rattle.yew_words.specs.declared.plan.Job.TheVariants as jobs
 use Rattle.yew_words.specs.declared.plan.Made.{Made}
 use Rattle.yew_words.specs.Plans.{Planned}
 use Rattle.yew_words.specs.Word.{Word}
+use Rattle.yew_app.specs.FlowShops.{flow_meaning}
 use Rattle.yew_app.specs.Knapsacks.{goal_of, knapsack_meaning}
 use Rattle.yew_app.specs.Meanings.{Meaning}
 use Rattle.yew_app.specs.Semigroups.{semigroups_meaning}
@@ -24,5 +27,6 @@ of_job jobs.Knapsack (name ∷ []) plan made by = by Knapsack KnapNode (knapsack
 of_job jobs.Tsp (name ∷ []) plan made by = by Cities TourNode (tours_meaning name plan.gap)
 of_job jobs.Subgraph (pattern ∷ target ∷ []) plan made by = by GraphPair (List ℕ) (maps_meaning pattern target)
 of_job jobs.Semigroups [] plan made by = by Semigroups (List ℕ) (semigroups_meaning plan.genus)
+of_job jobs.Flow (name ∷ []) plan made by = by FlowShop FlowNode (flow_meaning name plan.gap)
 of_job (jobs.Make kind) [] plan made by = made kind
 of_job _ names plan made by = ⊥

@@ -1,4 +1,5 @@
 pub mod Asks
+pub mod FlowShops
 pub mod Jobs
 pub mod Judging
 pub mod Knapsacks

@@ -29,6 +29,7 @@ pub(crate) fn files_have_one_way()
     yew_knap::laws::file_laws();
     yew_tsp::laws::file_laws();
     yew_lad::laws::file_laws();
+    yew_flow::laws::file_laws();
 }
 
 /// What the numbers of the logs of a whole search, of any skeleton and any number of workers, have to do with each other:

@@ -8,6 +8,7 @@
 
 mod asked;
 mod crew;
+mod flow;
 mod job;
 mod knapsack;
 pub mod laws;

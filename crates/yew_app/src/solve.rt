@@ -13,6 +13,7 @@ ghost use Rattle.yew_app.specs.Runs.{AnswersJob, StopsJob};
 
 use crate::asked::{Asked, plan_is_askable};
 use crate::crew::Crew;
+use crate::flow::flow_of;
 use crate::knapsack::knapsack_of;
 use crate::made::text_of_made;
 use crate::plan::both_files;
@@ -76,6 +77,10 @@ pub(crate) fn solve_plain<'a, S: Shelf<'a>>(
             };
             solve_alone(alloc, shelf, &job, asked)
         }
+        Job::Flow => {
+            let job = flow_of(plan);
+            solve_alone(alloc, shelf, &job, asked)
+        }
         Job::Make(made) => match text_of_made(alloc, made, plan.seed, plan.size, plan.solve) {
             Ok(text) => Ok(text),
             Err(Memory) => Err(Refusal::Memory),
@@ -128,6 +133,10 @@ pub(crate) fn solve_by_crew<'a, S: Shelf<'a>, G: Gate, H: Threads + Wait + Sync>
             let job = SemigroupsJob {
                 counts: ByDepth { depths: plan.genus },
             };
+            solve_together(crew, alloc, shelf, &job, asked)
+        }
+        Job::Flow => {
+            let job = flow_of(plan);
             solve_together(crew, alloc, shelf, &job, asked)
         }
         Job::Make(made) => match text_of_made(alloc, made, plan.seed, plan.size, plan.solve) {

@@ -30,6 +30,7 @@ head_of jobs.Knapsack coordination = Search problems.Knapsack coordination
 head_of jobs.Tsp coordination = Search problems.Tsp coordination
 head_of jobs.Subgraph coordination = Search problems.Subgraph coordination
 head_of jobs.Semigroups coordination = Search problems.Semigroups coordination
+head_of jobs.Flow coordination = Search problems.Flow coordination
 head_of (jobs.Make kind) coordination = Make kind
 
 -- ---- a field that comes from an option

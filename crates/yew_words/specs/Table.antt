@@ -65,6 +65,7 @@ abbrev pub has_gap : Head → Bool
 has_gap (Search problem coordinations.Ordered) = false
 has_gap (Search problems.Knapsack coordination) = true
 has_gap (Search problems.Tsp coordination) = true
+has_gap (Search problems.Flow coordination) = true
 has_gap _ = false
 
 abbrev pub has_genus : Head → Bool
@@ -134,6 +135,7 @@ problem_row problems.Knapsack = record { word = codes "knapsack"; files = 1; nee
 problem_row problems.Tsp = record { word = codes "tsp"; files = 1; needs = []; instead = []; job = jobs.Tsp }
 problem_row problems.Subgraph = record { word = codes "subgraph"; files = 2; needs = []; instead = []; job = jobs.Subgraph }
 problem_row problems.Semigroups = record { word = codes "semigroups"; files = 0; needs = options.Genus ∷ []; instead = []; job = jobs.Semigroups }
+problem_row problems.Flow = record { word = codes "flow"; files = 1; needs = []; instead = []; job = jobs.Flow }
 
 -- what is made, by the word behind `make`
 abbrev pub made_row : Made → JobRow
@@ -147,7 +149,7 @@ job_row (Make kind) = made_row kind
 
 -- each of a kind
 abbrev pub every_problem : List Problem
-every_problem = problems.Knapsack ∷ problems.Tsp ∷ problems.Subgraph ∷ problems.Semigroups ∷ []
+every_problem = problems.Knapsack ∷ problems.Tsp ∷ problems.Subgraph ∷ problems.Semigroups ∷ problems.Flow ∷ []
 
 abbrev pub every_made : List Made
 every_made = made.Knapsack ∷ made.Tsp ∷ made.Lad ∷ []

@@ -24,6 +24,8 @@ pub enum Job {
     Subgraph,
     /// The count of numerical semigroups by genus.
     Semigroups,
+    /// The permutation flow shop.
+    Flow,
     /// A workload is made, and no file is read.
     Make(Made),
 }

@@ -16,6 +16,7 @@ pub enum Problem {
     Tsp,
     Subgraph,
     Semigroups,
+    Flow,
 }
 
 /// A skeleton without its number.
@@ -88,11 +89,12 @@ pub struct JobRow {
     pub job: Job,
 }
 
-const PROBLEMS: [Problem; 4] = [
+const PROBLEMS: [Problem; 5] = [
     Problem::Knapsack,
     Problem::Tsp,
     Problem::Subgraph,
     Problem::Semigroups,
+    Problem::Flow,
 ];
 
 const COORDINATIONS: [Coordination; 5] = [
@@ -174,7 +176,7 @@ impl OptionName {
                 suits: matches!(
                     head,
                     Head::Search(
-                        Problem::Knapsack | Problem::Tsp,
+                        Problem::Knapsack | Problem::Tsp | Problem::Flow,
                         Coordination::Sequential
                             | Coordination::Depth
                             | Coordination::Budget
@@ -303,6 +305,13 @@ impl Problem {
                 needs: &[OptionName::Genus],
                 instead: &[],
                 job: Job::Semigroups,
+            },
+            Problem::Flow => JobRow {
+                word: "flow",
+                files: 1,
+                needs: &[],
+                instead: &[],
+                job: Job::Flow,
             },
         }
     }

@@ -6,6 +6,9 @@ use Rattle.yew_knap.proofs.knapsack.Knapsack.TheSendSync.{the_sync as knapsack}
 use Rattle.yew_tsp.proofs.nodes.TourNode.TheSendSync.{the_send as tour_node}
 use Rattle.yew_tsp.proofs.nodes.TourKids.TheSendSync.{the_send as tour_kids}
 use Rattle.yew_tsp.proofs.tours.Tours.TheSendSync.{the_sync as tours}
+use Rattle.yew_flow.proofs.flow.Flow.TheSendSync.{the_sync as flow}
+use Rattle.yew_flow.proofs.nodes.FlowNode.TheSendSync.{the_send as flow_node}
+use Rattle.yew_flow.proofs.nodes.FlowKids.TheSendSync.{the_send as flow_kids}
 use Rattle.yew_lad.proofs.nodes.MapNode.TheSendSync.{the_send as map_node}
 use Rattle.yew_lad.proofs.nodes.MapKids.TheSendSync.{the_send as map_kids}
 use Rattle.yew_lad.proofs.subgraph.Subgraph.TheSendSync.{the_sync as subgraph}
@@ -28,3 +31,6 @@ solve_together-requires-in-Subgraph g b c = (search (map_node, sendable) depth 2
 
 pub solve_together-requires-in-Semigroups : goal.solve_together-requires-in-Semigroups
 solve_together-requires-in-Semigroups g b c = (search (semigroup, sendable) depth 20, (search (generators, sendable) depth 20, (search (depths, sendable) depth 20, ((let shares = b.type_bounds.sync-G in search sendable depth 20), ((let shares = b.type_bounds.sync-H in search sendable depth 20), (search (semigroups, sendable) depth 20, (search (by_depth, sendable) depth 20, ((refl, tt), (b.plan_is_askable.ensures, λ ordered. tt)))))))))
+
+pub solve_together-requires-in-Flow : goal.solve_together-requires-in-Flow
+solve_together-requires-in-Flow g b c = (search (flow_node, sendable) depth 20, (search (flow_kids, sendable) depth 20, (search sendable depth 20, ((let shares = b.type_bounds.sync-G in search sendable depth 20), ((let shares = b.type_bounds.sync-H in search sendable depth 20), (search (flow, sendable) depth 20, (search (no_tally, sendable) depth 20, ((refl, tt), (b.plan_is_askable.ensures, b.flow_of-job.ensures.exact)))))))))

@@ -4,6 +4,9 @@ use Rattle.yew_knap.proofs.nodes.KnapNode.TheSendSync.{the_send as knap_node}
 use Rattle.yew_knap.proofs.nodes.KnapKids.TheSendSync.{the_send as knap_kids}
 use Rattle.yew_knap.proofs.knapsack.Knapsack.TheSendSync.{the_sync as knapsack}
 use Rattle.yew_tsp.proofs.tours.Tours.TheSendSync.{the_sync as tours}
+use Rattle.yew_flow.proofs.flow.Flow.TheSendSync.{the_sync as flow}
+use Rattle.yew_flow.proofs.nodes.FlowNode.TheSendSync.{the_send as flow_node}
+use Rattle.yew_flow.proofs.nodes.FlowKids.TheSendSync.{the_send as flow_kids}
 use Rattle.yew_lad.proofs.nodes.MapKids.TheSendSync.{the_send as map_kids}
 use Rattle.yew_lad.proofs.subgraph.Subgraph.TheSendSync.{the_sync as subgraph}
 use Rattle.yew_app.proofs.solve.solve_plain.Goals as goal
@@ -16,3 +19,6 @@ solve_alone-requires-in-Tsp g b c = (search sendable depth 20, (search sendable 
 
 pub solve_alone-requires-in-Subgraph : goal.solve_alone-requires-in-Subgraph
 solve_alone-requires-in-Subgraph g b c = (search sendable depth 20, (search (map_kids, sendable) depth 20, (search sendable depth 20, (search (subgraph, sendable) depth 20, (search sendable depth 20, ((refl, tt), (b.plan_is_askable.ensures, b.requires.done)))))))
+
+pub solve_alone-requires-in-Flow : goal.solve_alone-requires-in-Flow
+solve_alone-requires-in-Flow g b c = (search (flow_node, sendable) depth 20, (search (flow_kids, sendable) depth 20, (search sendable depth 20, (search (flow, sendable) depth 20, (search sendable depth 20, ((refl, tt), (b.plan_is_askable.ensures, b.requires.done)))))))
