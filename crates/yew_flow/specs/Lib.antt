@@ -1,6 +1,7 @@
 pub mod Answers
 pub mod Bits
 pub mod BoundLaws
+pub mod CompletionLaws
 pub mod Files
 pub mod Instance
 pub mod Lists
