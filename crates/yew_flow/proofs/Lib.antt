@@ -1,0 +1,2 @@
+mod LaterTable
+mod Rows
