@@ -1,2 +1,7 @@
+mod Bounds
+mod Children
 mod LaterTable
+mod Leasts
+mod Leaves
+mod Lowest
 mod Rows

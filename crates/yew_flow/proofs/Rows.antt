@@ -1,11 +1,13 @@
 -- Rows of numbers that are set anew machine by machine, and sums and lists that grow by one.
-use Rattle.std.proofs.Common.{◌≡◌, ℕ, suc, ◌+◌, ◌-◌, ◌<◌, ◌≤◌, List, [], ◌∷◌, ◌++◌, length, drop, map, get_or, slice_set, append_assoc, refl, ap, sym, ◌∙◌, arith}
+use Rattle.std.proofs.Common.{◌≡◌, ℕ, zero, suc, max, ◌+◌, ◌-◌, ◌<◌, ◌≤◌, List, [], ◌∷◌, ◌++◌, length, drop, map, get_or, slice_set, append_assoc, refl, ap, sym, ◌∙◌, arith}
 use Rattle.std.specs.List.{range_with_len, sum_by}
 use Rattle.std.proofs.Math.Seq.{set-append_seam}
 use Rattle.std.proofs.lemmas.List.{drop_more, map_push}
 use Rattle.std.proofs.lemmas.List.FromFn.{length-map-range_with_len}
 use Rattle.std.proofs.lemmas.List.Sums.{sum_by_push}
+use Rattle.yew_flow.specs.Instance.{Instance, time_on}
 use Rattle.yew_flow.specs.Lists.{range-append}
+use Rattle.yew_flow.specs.Nodes.{done_on}
 
 -- a row whose first places are set
 abbrev pub front : (ℕ → ℕ) → List ℕ → ℕ → List ℕ
@@ -44,3 +46,10 @@ sum-more f a k l =
     ∙ ap (sum_by f) (range-more a (k - a))
     ∙ sum_by_push f (range_with_len a (k - a)) (a + (k - a))
     ∙ ap (λ j. sum_by f (range_with_len a (k - a)) + f j) last
+
+-- when a job is done on a machine, by the machine before
+pub done-at : (instance : Instance) (ends : List ℕ) (job machine : ℕ) → 1 ≤ machine → done_on instance ends job machine ≡ max (get_or ends (machine - 1) 0) (done_on instance ends job (machine - 1)) + time_on instance job machine
+done-at instance ends job zero some = absurd (omega (arith, some))
+done-at instance ends job (suc j) some =
+    let place : j ≡ suc j - 1 = omega arith in
+    ap (λ k. max (get_or ends k 0) (done_on instance ends job k) + time_on instance job (suc j)) place
