@@ -1,7 +1,13 @@
 mod Bounds
 mod Children
+mod FileLaws
+mod FileReader
 mod LaterTable
 mod Leasts
 mod Leaves
 mod Lowest
+mod Paths
+mod Rights
 mod Rows
+mod TimeSteps
+pub mod TreeIs

@@ -47,7 +47,7 @@ zero_line (word ∷ words) = if is_zero word then Some word.line else (if is_som
 
 -- the first offence of the file: a number of jobs or of machines that is 0, or else the first word that is not what is due
 abbrev pub Offends : Option ℕ → List ℕ → TextKind → ℕ → Type 0
-Offends (Some zero) bytes kind line = (kind ≡ BadLine) × (line ≡ zero)
+Offends (Some first) bytes kind line = (kind ≡ BadLine) × (line ≡ first)
 Offends None bytes kind line = HasOffence flow_shape (end_line bytes) (words_of bytes) kind line
 
 abbrev pub IsFlowOffence : List ℕ → TextKind → ℕ → Type 0
