@@ -1,5 +1,6 @@
 mod Bounds
 mod Children
+mod FileGrammar
 mod FileLaws
 mod FileReader
 mod LaterTable
@@ -11,3 +12,4 @@ mod Rights
 mod Rows
 mod TimeSteps
 pub mod TreeIs
+mod Zeros
