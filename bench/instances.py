@@ -50,6 +50,11 @@ def graph_text(graph):
     return f"{len(graph)}\n" + "".join(line(len(row), sorted(row)) for row in graph)
 
 
+def flow_text(times):
+    """A flow shop file of the times of each job on the machines in order."""
+    return line(len(times), [len(times[0])]) + "".join(line(row[0], row[1:]) for row in times)
+
+
 # Knapsacks. Profits and weights are up to `most`; the capacity is a share, in hundredths, of the weight of all items.
 
 
@@ -116,6 +121,15 @@ def asymmetric_tour(seed, n, most):
     random = Random(seed)
     weights = [[0 if i == j else 1 + random.below(most) for j in range(n)] for i in range(n)]
     return tour_text(weights)
+
+
+# Flow shops
+
+
+def uniform_flow(seed, jobs, machines, most):
+    """Times from 1 up to `most`, as Taillard's instances have them (1993)."""
+    random = Random(seed)
+    return flow_text([[1 + random.below(most) for _ in range(machines)] for _ in range(jobs)])
 
 
 # Pairs of pattern and target without a map. Densities are in hundredths.

@@ -1,7 +1,8 @@
-//! Four exact tree searches, each written by hand for its one problem and sharing nothing but the reading of files and
+//! Five exact tree searches, each written by hand for its one problem and sharing nothing but the reading of files and
 //! the report. They search the trees of the program `yew`, with its bounds and its order of children, and write what
 //! `yew JOB sequential .. --report` writes: the answer, and how many nodes were visited and cut.
 
+mod flow;
 mod knapsack;
 mod reading;
 mod report;
@@ -11,7 +12,7 @@ mod tsp;
 
 use std::process::ExitCode;
 
-const USAGE: &str = "by_hand knapsack FILE [--target T] | tsp FILE | subgraph PATTERN TARGET | semigroups --genus G";
+const USAGE: &str = "by_hand knapsack FILE [--target T] | tsp FILE | subgraph PATTERN TARGET | semigroups --genus G | flow FILE";
 
 fn main() -> ExitCode {
     let words: Vec<String> = std::env::args().skip(1).collect();
@@ -36,6 +37,7 @@ fn answer(words: &[&str]) -> Result<String, String> {
         ["tsp", file] => tsp::best(&read(file)?),
         ["subgraph", pattern, target] => subgraph::reach(&read(pattern)?, &read(target)?),
         ["semigroups", "--genus", genus] => semigroups::count(number(genus)?),
+        ["flow", file] => flow::best(&read(file)?),
         _ => Err(format!("usage: {USAGE}")),
     }
 }

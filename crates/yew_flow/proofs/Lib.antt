@@ -1,0 +1,15 @@
+mod Bounds
+mod Children
+mod FileGrammar
+mod FileLaws
+mod FileReader
+mod LaterTable
+mod Leasts
+mod Leaves
+mod Lowest
+mod Paths
+mod Rights
+mod Rows
+mod TimeSteps
+pub mod TreeIs
+mod Zeros

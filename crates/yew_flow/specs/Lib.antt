@@ -1,0 +1,12 @@
+pub mod Answers
+pub mod Bits
+pub mod BoundLaws
+pub mod CompletionLaws
+pub mod Files
+pub mod Instance
+pub mod Lists
+pub mod NodeLaws
+pub mod Nodes
+pub mod Orders
+pub mod Reading
+pub mod Texts
