@@ -8,14 +8,14 @@ _yew() {
     COMPREPLY=()
 
     case $job in
-        knapsack | tsp) files=1 ;;
+        knapsack | tsp | flow) files=1 ;;
         subgraph) files=2 ;;
         semigroups | make) files=0 ;;
         *) [ "$COMP_CWORD" = 1 ] || return 0 ;;
     esac
 
     if [ "$COMP_CWORD" = 1 ]; then
-        words=(knapsack tsp subgraph semigroups make)
+        words=(knapsack tsp subgraph semigroups flow make)
     elif [ "$COMP_CWORD" = 2 ]; then
         case $job in
             make) words=(knapsack tsp lad) ;;
@@ -61,7 +61,7 @@ _yew() {
                 esac
                 case $job:$second in
                     *:ordered) ;;
-                    knapsack:* | tsp:*) options+=(--gap) ;;
+                    knapsack:* | tsp:* | flow:*) options+=(--gap) ;;
                 esac
                 # (each option stands at most once, and of a target and a gap one)
                 for word in "${options[@]}"; do

@@ -11,7 +11,7 @@ function __yew_due
     end
     set -l files 0
     switch $words[1]
-        case knapsack tsp
+        case knapsack tsp flow
             set files 1
         case subgraph
             set files 2
@@ -88,7 +88,7 @@ function __yew_option
             set -a options --workers --chunk
     end
     switch $words[2]:$words[3]
-        case knapsack:sequential knapsack:depth knapsack:budget knapsack:steal tsp:sequential tsp:depth tsp:budget tsp:steal
+        case knapsack:sequential knapsack:depth knapsack:budget knapsack:steal tsp:sequential tsp:depth tsp:budget tsp:steal flow:sequential flow:depth flow:budget flow:steal
             set -a options --gap
     end
     contains -- $argv[1] $options
@@ -101,6 +101,7 @@ complete -c yew -n '__yew_is_due job' -a knapsack -d 'the best profit of items w
 complete -c yew -n '__yew_is_due job' -a tsp -d 'a shortest tour of cities'
 complete -c yew -n '__yew_is_due job' -a subgraph -d 'a map of one graph into another'
 complete -c yew -n '__yew_is_due job' -a semigroups -d 'how many numerical semigroups there are of each genus'
+complete -c yew -n '__yew_is_due job' -a flow -d 'an order of jobs that ends first on a row of machines'
 complete -c yew -n '__yew_is_due job' -a make -d 'the text of an instance that a seed determines'
 
 complete -c yew -n '__yew_is_due skeleton' -a sequential -d 'one worker, in preorder'

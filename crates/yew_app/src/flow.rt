@@ -19,12 +19,12 @@ use crate::reading::{FileKind, read_file};
 use crate::refusal::Refusal;
 use crate::solution::Solution;
 use std::alloc::Global;
+use yew_flow::laws::tree_orders;
+use yew_flow::{Flow, FlowNode};
 use yew_io::Shelf;
 use yew_kinds::{Kind, NoTally};
 use yew_laws::Memory;
 use yew_text::FileEnd;
-use yew_flow::laws::tree_orders;
-use yew_flow::{FlowNode, Flow};
 use yew_words::Plan;
 
 /// Files of flow shops.

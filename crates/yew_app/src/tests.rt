@@ -3,6 +3,7 @@
 mod audits;
 mod crews;
 mod faults;
+mod flow;
 mod gaps;
 mod graphs;
 mod hostile;
