@@ -3,11 +3,13 @@ mod Children
 mod FileGrammar
 mod FileLaws
 mod FileReader
+mod FirstLeast
 mod LaterTable
 mod Leasts
 mod Leaves
 mod Lowest
 mod Paths
+mod RankedPlaces
 mod Rights
 mod Rows
 mod TimeSteps

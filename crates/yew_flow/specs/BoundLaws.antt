@@ -41,7 +41,7 @@ least-all f [] = tt
 least-all f (x ∷ xs) = let l = least_with-all f (f x) xs in (l.own, l.others)
 
 -- what is at most each of some is at most their least
-least_with-above : (f : ℕ → ℕ) (b a : ℕ) (xs : List ℕ) → b ≤ a → AllByRecursion (λ x. b ≤ f x) xs → b ≤ least_with a (map f xs)
+pub least_with-above : (f : ℕ → ℕ) (b a : ℕ) (xs : List ℕ) → b ≤ a → AllByRecursion (λ x. b ≤ f x) xs → b ≤ least_with a (map f xs)
 least_with-above f b a [] l h = l
 least_with-above f b a (x ∷ xs) l h = let rest = least_with-above f b (f x) xs h.0 h.1 in omega (arith, l, rest)
 
