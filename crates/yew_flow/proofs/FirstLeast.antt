@@ -1,6 +1,5 @@
 -- The first of the absent jobs by their times on the later machines has the least.
-use Rattle.std.proofs.Common.{◌≡◌, ℕ, zero, suc, ◌+◌, ◌-◌, ◌*◌, ◌/◌, ◌%◌, ◌^◌, ◌<◌, ◌≤◌, Bool, true, false, ◌||◌, ◌==◌, List, [], ◌∷◌, length, get_or, map, Option, Some, None, slice_index, refl, ap, sym, subst, ◌∙◌, arith, inl, inr}
-use Rattle.std.specs.Prelude.{flat_map}
+use Rattle.std.proofs.Common.{◌≡◌, ℕ, zero, suc, ◌+◌, ◌-◌, ◌*◌, ◌%◌, ◌<◌, ◌≤◌, Bool, true, false, ◌||◌, ◌==◌, List, [], ◌∷◌, length, map, Some, None, slice_index, refl, ap, sym, ◌∙◌, arith, inl, inr}
 use Rattle.std.specs.Int.{bit_at}
 use Rattle.std.specs.List.{AllByRecursion, find, range_with_len}
 use Rattle.std.proofs.lemmas.Bool.{cases_eq, true≢false}
@@ -11,8 +10,8 @@ use Rattle.yew_laws.proofs.Members.{AllByRecursion-map, AllByRecursion-both, All
 use Rattle.yew_flow.specs.Bits.{bits_of}
 use Rattle.yew_flow.specs.BoundLaws.{least-all, least_with-above}
 use Rattle.yew_flow.specs.Instance.{Instance, IsWithinLimits}
-use Rattle.yew_flow.specs.Lists.{filter-all, filter-passes, filter-contains, length-range, range-all, member-all}
-use Rattle.yew_flow.specs.Nodes.{later_time, later_entry, later_table, later_in, all_put_in, places_by, places_table, least_of, jobs_in}
+use Rattle.yew_flow.specs.Lists.{filter-passes, filter-contains, length-range, range-all, member-all}
+use Rattle.yew_flow.specs.Nodes.{later_time, later_entry, later_table, later_in, places_by, places_table, least_of, jobs_in}
 use Rattle.yew_flow.proofs.LaterTable.{later-step}
 use Rattle.yew_flow.proofs.RankedPlaces.{contains-all_put_in, length-all_put_in, all_put_in-all, all_put_in-rises, find-least, find-passes, find-all, find-none, rows-length}
 

@@ -5,7 +5,6 @@ mod FileLaws
 mod FileReader
 mod FirstLeast
 mod LaterTable
-mod Leasts
 mod Leaves
 mod Lowest
 mod Paths
@@ -14,4 +13,5 @@ mod Rights
 mod Rows
 mod TimeSteps
 pub mod TreeIs
+mod WordJobs
 mod Zeros

@@ -1,7 +1,7 @@
 -- The bound of a node: no order that begins with its list is done earlier.
-use Rattle.std.specs.Prelude.{◌≡◌, ◌≢◌, ℕ, ◌+◌, ◌-◌, ◌*◌, ◌<◌, ◌≤◌, ◌^◌, Bool, true, false, min, max, ◌==◌, List, [], ◌∷◌, ◌++◌, length, map, filter, sum_by, refl, if◌then◌else◌}
+use Rattle.std.specs.Prelude.{◌≡◌, ◌≢◌, ℕ, ◌+◌, ◌-◌, ◌*◌, ◌<◌, ◌≤◌, ◌^◌, true, false, min, max, ◌==◌, List, [], ◌∷◌, ◌++◌, length, map, sum_by, refl, if◌then◌else◌}
 use Rattle.std.specs.List.{AllByRecursion, range_with_len}
-use Rattle.std.proofs.Common.{zero, suc, ap, ap₂, sym, subst, ◌∙◌, arith, inl, inr, get_or}
+use Rattle.std.proofs.Common.{zero, suc, ap, sym, subst, ◌∙◌, arith, inl, inr, get_or}
 use Rattle.std.proofs.lemmas.List.{nil_from_length}
 use Rattle.std.proofs.lemmas.Bool.{cases_eq}
 use Rattle.std.proofs.lemmas.Bool.Decides.{nat_tests}
@@ -13,7 +13,7 @@ use Rattle.yew_flow.specs.declared.nodes.FlowNode.{FlowNode}
 use Rattle.yew_flow.specs.CompletionLaws.{completion-rises, completed-push, last-rises}
 use Rattle.yew_flow.specs.Instance.{Instance, IsWithinLimits, time_on}
 use Rattle.yew_flow.specs.Lists.{filter-all, is_other, length-range, range-all, member-all}
-use Rattle.yew_flow.specs.NodeLaws.{IsFree, free-listed, absent-push, absent-less, time-less, length-jobs, jobs-appended, IsAppended, children-appended, orders-ranked}
+use Rattle.yew_flow.specs.NodeLaws.{IsFree, free-listed, absent-push, time-less, length-jobs, jobs-appended, IsAppended, children-appended, orders-ranked}
 use Rattle.yew_flow.specs.Nodes.{all_machines, absent_from, completed, time_of_all, later_time, least_with, least_of, greatest_of, lower_on, lower_of, jobs_of, children_of, worth_of, bound_of, IsNode}
 use Rattle.yew_flow.specs.Orders.{completion, makespan}
 

@@ -1,14 +1,14 @@
 -- When the jobs of a list are done, one job after another.
-use Rattle.std.specs.Prelude.{◌≡◌, ℕ, ◌+◌, ◌-◌, ◌*◌, ◌<◌, ◌≤◌, ◌^◌, max, List, [], ◌∷◌, ◌++◌, length, take, drop, map, sum_by, slice_index, refl}
+use Rattle.std.specs.Prelude.{◌≡◌, ℕ, ◌+◌, ◌<◌, ◌≤◌, max, List, [], ◌∷◌, ◌++◌, length, take, drop, map, sum_by, slice_index, refl}
 use Rattle.std.specs.List.{AllByRecursion, range_with_len}
 use Rattle.std.proofs.Common.{zero, suc, ap, ap₂, sym, subst, ◌∙◌, arith, get_or}
 use Rattle.std.proofs.Math.Seq.{get_or-append_seam}
 use Rattle.std.proofs.lemmas.List.{get_or-take, get_or_append_left, length_push, length-append, length-drop, take-append-le}
 use Rattle.std.proofs.lemmas.List.FromFn.{get_or-map-range_with_len, length-map-range_with_len}
 use Rattle.std.proofs.lemmas.List.Sums.{sum_by-cons}
-use Rattle.yew_flow.specs.Instance.{Instance, IsWithinLimits, time_on}
+use Rattle.yew_flow.specs.Instance.{Instance, time_on}
 use Rattle.yew_flow.specs.Lists.{range-all}
-use Rattle.yew_flow.specs.Nodes.{all_machines, completed, later_time, with_machines, done_on}
+use Rattle.yew_flow.specs.Nodes.{all_machines, completed, with_machines, done_on}
 use Rattle.yew_flow.specs.Orders.{completion}
 
 -- ---- rows of numbers, one for each machine

@@ -1,5 +1,5 @@
 -- Lists of numbers: what a test keeps of a range, one more number at the end, one number taken out.
-use Rattle.std.specs.Prelude.{◌≡◌, ◌≢◌, ℕ, ◌+◌, ◌-◌, ◌<◌, ◌≤◌, Bool, true, false, not, ◌&&◌, ◌||◌, ◌==◌, List, [], ◌∷◌, ◌++◌, length, filter, sum_by, slice_get, Some, nat_le, refl}
+use Rattle.std.specs.Prelude.{◌≡◌, ◌≢◌, ℕ, ◌+◌, ◌<◌, ◌≤◌, Bool, true, false, not, ◌&&◌, ◌||◌, ◌==◌, List, [], ◌∷◌, ◌++◌, length, filter, sum_by, slice_get, Some, nat_le, refl}
 use Rattle.std.specs.List.{AllByRecursion, range_with_len}
 use Rattle.std.proofs.Common.{zero, suc, cond, ap, ap₂, sym, subst, ◌∙◌, arith, inl, inr}
 use Rattle.std.proofs.lemmas.Bool.{and_from, and_parts, cases_eq, le-leb, leb-true, true≢false}
@@ -74,13 +74,6 @@ range-append a (suc n) m =
     let e : suc n + m ≡ suc (n + m) = omega arith in
     let f : a + 1 + n ≡ a + suc n = omega arith in
     ap (range_with_len a) e ∙ ap (λ ks. a ∷ ks) (range-append (a + 1) n m ∙ ap (λ b. range_with_len (a + 1) n ++ range_with_len b m) f)
-
--- one more number at the end of a range from 1 on
-pub range-push : (k : ℕ) → 1 ≤ k → range_with_len 1 (k + 1 - 1) ≡ range_with_len 1 (k - 1) ++ k ∷ []
-range-push k some =
-    let long : k + 1 - 1 ≡ k - 1 + 1 = omega arith in
-    let last : 1 + (k - 1) ≡ k = omega arith in
-    ap (range_with_len 1) long ∙ range-append 1 (k - 1) 1 ∙ ap (λ j. range_with_len 1 (k - 1) ++ j ∷ []) last
 
 -- what a test keeps of a range and of a shorter one in it
 pub filter-range : (p : ℕ → Bool) (a n m l : ℕ) → ((k : ℕ) → k < a + n → a ≤ k → p k ≡ false) → ((k : ℕ) → a + n + m ≤ k → p k ≡ false) → filter p (range_with_len a (n + (m + l))) ≡ filter p (range_with_len (a + n) m)

@@ -1,4 +1,4 @@
-use Rattle.std.proofs.Common.{◌∙◌, ◌*◌, ◌≤◌, length, ap, arith}
+use Rattle.std.proofs.Common.{◌∙◌, length, ap, arith}
 use Rattle.yew_flow.specs.Instance.{Instance}
 use Rattle.yew_flow.proofs.LaterTable.{length-later}
 use Rattle.yew_flow.proofs.flow.Flow.later.Goals as goal
