@@ -1,6 +1,5 @@
 -- What is known of a list, where the list with one more job is a node.
-use Rattle.std.proofs.Common.{◌≡◌, ℕ, zero, suc, ◌+◌, ◌^◌, ◌<◌, ◌≤◌, [], ◌∷◌, ◌++◌, length, take, arith}
-use Rattle.std.proofs.lemmas.List.{length-set, take_more_set}
+use Rattle.std.proofs.Common.{ℕ, zero, suc, ◌+◌, ◌^◌, ◌<◌, ◌≤◌, length, arith}
 use Rattle.yew_flow.specs.declared.nodes.FlowNode.{FlowNode}
 use Rattle.yew_flow.specs.BoundLaws.{completion-small}
 use Rattle.yew_flow.specs.CompletionLaws.{row-at, row-front}
@@ -11,11 +10,6 @@ use Rattle.yew_flow.specs.Nodes.{completed, jobs_of, done_on, ends_behind, appen
 module _ (instance : Instance) (node : FlowNode) (job : ℕ) (sound : IsNode instance (appended instance node job)) where
   pub few-placed : node.placed + 1 ≤ 64
   few-placed = let count = sound.count in let few = sound.limits.few_jobs in omega (arith, count, few)
-
-  jobs-are : jobs_of (appended instance node job) ≡ take node.placed node.jobs ++ job ∷ []
-  jobs-are =
-      let size = sound.size in let long = length-set node.jobs node.placed job in let few = few-placed in
-      take_more_set node.jobs node.placed job (omega (arith, size, long, few))
 
   -- each machine is free again soon enough
   pub done-small : (machine : ℕ) → machine ≤ instance.machines → done_on instance node.ends job machine < 2 ^ 32

@@ -123,7 +123,9 @@ module _ (instance : Instance) (xs : List ℕ) (job : ℕ) (free : IsFree instan
   machine-rises j l [] e =
       let less = time-less instance xs job free (suc j) in
       let none : time_of_all instance (absent_from instance all) (suc j) ≡ 0 = ap (λ cs. time_of_all instance cs (suc j)) e in
-      let least = member-all (λ c. least_of (map (later_time instance (suc j)) (absent_from instance xs)) ≤ later_time instance (suc j) c) (absent_from instance xs) job (least-all (later_time instance (suc j)) (absent_from instance xs)) (free-listed instance xs job free) in
+      let f = later_time instance (suc j) in
+      let absent = absent_from instance xs in
+      let least = member-all (λ c. least_of (map f absent) ≤ f c) absent job (least-all f absent) (free-listed instance xs job free) in
       let done = job-done j in
       let last : suc j + (instance.machines - suc j) ≡ instance.machines = omega (arith, l) in
       let rises : completed instance all (suc j) + later_time instance (suc j) job ≤ completed instance all instance.machines =

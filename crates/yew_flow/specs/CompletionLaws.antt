@@ -81,7 +81,8 @@ module _ (instance : Instance) where
       ∙ ap (λ job. max (completed instance xs (suc j)) (completed instance all j) + time_on instance job (suc j)) (get_or-append_seam xs c [] 0)
 
   -- what is computed from the row of a list is the row of the list with one more job
-  pub done-completed : (xs ends : List ℕ) (c j : ℕ) → take instance.machines ends ≡ map (completed instance xs) (all_machines instance) → j ≤ instance.machines → done_on instance ends c j ≡ completed instance (xs ++ c ∷ []) j
+  pub done-completed : (xs ends : List ℕ) (c j : ℕ) → take instance.machines ends ≡ map (completed instance xs) (all_machines instance) → j ≤ instance.machines
+      → done_on instance ends c j ≡ completed instance (xs ++ c ∷ []) j
   done-completed xs ends c zero e l = sym (completion-zero (xs ++ c ∷ []) (length (xs ++ c ∷ [])))
   done-completed xs ends c (suc j) e l =
       ap₂ (λ a b. max a b + time_on instance c (suc j)) (row-at instance ends (completed instance xs) j e (omega (arith, l))) (done-completed xs ends c j e (omega (arith, l)))

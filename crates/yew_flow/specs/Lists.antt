@@ -105,12 +105,6 @@ or_false false = refl
 pub contains-push : (xs : List ℕ) (c y : ℕ) → contains (xs ++ c ∷ []) y ≡ (contains xs y || c == y)
 contains-push xs c y = contains-append xs (c ∷ []) y ∙ ap (λ b. contains xs y || b) (or_false (c == y))
 
-pub contains-last : (xs : List ℕ) (c : ℕ) → contains (xs ++ c ∷ []) c ≡ true
-contains-last xs c = contains-push xs c c ∙ itself (contains xs c)
-  where
-    itself : (b : Bool) → (b || c == c) ≡ true
-    itself b = grind (arith, nat_tests)
-
 -- what holds of each member
 pub member-all : (P : ℕ → Type 0) (xs : List ℕ) (c : ℕ) → AllByRecursion P xs → contains xs c ≡ true → P c
 member-all P [] c a h = absurd (true≢false (sym h))

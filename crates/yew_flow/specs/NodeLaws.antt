@@ -186,7 +186,7 @@ module _ (instance : Instance) (node : FlowNode) (sound : IsNode instance node) 
         let own : slice_index node.rest (suc machine - 1) ≡ time_of_all instance (absent_from instance before) (suc machine) =
         ap (slice_index node.rest) place ∙ row-at instance node.rest (time_of_all instance (absent_from instance before)) machine sound.rest_are l in
         let less = time-less instance before job free (suc machine) in
-        let same : time_of_all instance (absent_from instance (jobs_of longer)) (suc machine) ≡ time_of_all instance (absent_from instance (before ++ job ∷ [])) (suc machine) = ap (λ xs. time_of_all instance (absent_from instance xs) (suc machine)) jobs-appended in
+        let same = ap (λ xs. time_of_all instance (absent_from instance xs) (suc machine)) jobs-appended in
         omega (arith, own, less, same)
 
     -- the list with the job is a node
