@@ -1,29 +1,15 @@
 -- What is known of a list, where the list with one more job is a node.
-use Rattle.std.proofs.Common.{◌≡◌, ℕ, zero, suc, ◌+◌, ◌-◌, ◌*◌, ◌^◌, ◌<◌, ◌≤◌, true, [], ◌∷◌, ◌++◌, length, take, map, slice_index, ap, sym, subst, ◌∙◌, arith}
-use Rattle.std.proofs.lemmas.List.{length-set, take_more_set}
-use Rattle.yew_laws.specs.Sets.{contains, are_within}
+use Rattle.std.proofs.Common.{ℕ, zero, suc, ◌+◌, ◌^◌, ◌<◌, ◌≤◌, length, arith}
 use Rattle.yew_flow.specs.declared.nodes.FlowNode.{FlowNode}
 use Rattle.yew_flow.specs.BoundLaws.{completion-small}
 use Rattle.yew_flow.specs.CompletionLaws.{row-at, row-front}
 use Rattle.yew_flow.specs.Instance.{Instance}
-use Rattle.yew_flow.specs.Lists.{contains-last, within-parts, member-all}
 use Rattle.yew_flow.specs.NodeLaws.{length-jobs}
 use Rattle.yew_flow.specs.Nodes.{completed, jobs_of, done_on, ends_behind, appended, IsNode}
 
 module _ (instance : Instance) (node : FlowNode) (job : ℕ) (sound : IsNode instance (appended instance node job)) where
   pub few-placed : node.placed + 1 ≤ 64
   few-placed = let count = sound.count in let few = sound.limits.few_jobs in omega (arith, count, few)
-
-  jobs-are : jobs_of (appended instance node job) ≡ take node.placed node.jobs ++ job ∷ []
-  jobs-are =
-      let size = sound.size in let long = length-set node.jobs node.placed job in let few = few-placed in
-      take_more_set node.jobs node.placed job (omega (arith, size, long, few))
-
-  pub job-within : (1 ≤ job) × (job ≤ instance.jobs)
-  job-within =
-      member-all (λ k. (1 ≤ k) × (k ≤ instance.jobs)) (take node.placed node.jobs ++ job ∷ []) job
-      (within-parts 1 instance.jobs (take node.placed node.jobs ++ job ∷ []) (subst (λ xs. are_within 1 instance.jobs xs ≡ true) jobs-are sound.within))
-      (contains-last (take node.placed node.jobs) job)
 
   -- each machine is free again soon enough
   pub done-small : (machine : ℕ) → machine ≤ instance.machines → done_on instance node.ends job machine < 2 ^ 32

@@ -1,5 +1,5 @@
 -- What the parts of a reading show of the file.
-use Rattle.std.proofs.Common.{◌≡◌, ℕ, ◌*◌, ◌≤◌, ◌⊎◌, List, [], ◌∷◌, length, Option, Some, None, Ok, Err, cond, refl, sym, ap, subst, ◌∙◌, arith, inl, inr}
+use Rattle.std.proofs.Common.{◌≡◌, ℕ, ◌*◌, List, [], ◌∷◌, length, Option, Some, None, Ok, Err, cond, refl, sym, ap, subst, ◌∙◌, arith, inl, inr}
 use Rattle.std.specs.Option.{option_map}
 use Rattle.std.proofs.lemmas.Bool.{le-ltb}
 use Rattle.yew_text.specs.declared.text.TextKind.TheVariants.{BadLine}
@@ -15,7 +15,7 @@ use Rattle.yew_text.proofs.Steps.{refusal, number_is, reading_next, reading_faul
 use Rattle.yew_flow.specs.declared.reading.Past.{Past}
 use Rattle.yew_flow.specs.Files.{flow_shape, first_zero, zero_line, Offends, IsFlowFile, IsFlowOffence, instance_limits, IsPastLimit, HasNonePast, EndsReading}
 use Rattle.yew_flow.specs.Instance.{Instance, IsWithinLimits}
-use Rattle.yew_flow.specs.Reading.{IsZero, TakesCount, limited, TimesRead, EndsTimes}
+use Rattle.yew_flow.specs.Reading.{TakesCount, limited, TimesRead, EndsTimes}
 use Rattle.yew_flow.proofs.FileGrammar.{bounds}
 use Rattle.yew_flow.proofs.FileLaws.{within}
 use Rattle.yew_flow.proofs.Zeros.{zero-word, some-not_zero, zero_line-zero, zero_line-some, zero_line-fault, first_zero-zero, first_zero-some, first_zero-fault}

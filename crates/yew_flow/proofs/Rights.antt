@@ -44,6 +44,3 @@ module _ (instance : Instance) (limits : IsWithinLimits instance) (node : FlowNo
         within = omega (arith, own, is, near);
         text_is = text_is ∙ ap (λ l. near_lines l gap (jobs_of node)) same;
       }
-
-  pub worth-small : worth ≤ 2 ^ 37
-  worth-small = let own = node-worth instance limits node sound whole in omega (arith, own, is)

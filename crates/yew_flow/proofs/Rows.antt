@@ -1,8 +1,9 @@
 -- Rows of numbers that are set anew machine by machine, and sums and lists that grow by one.
-use Rattle.std.proofs.Common.{◌≡◌, ℕ, zero, suc, max, ◌+◌, ◌-◌, ◌<◌, ◌≤◌, List, [], ◌∷◌, ◌++◌, length, drop, map, get_or, slice_set, append_assoc, refl, ap, sym, ◌∙◌, arith}
+use Rattle.std.proofs.Common.{◌≡◌, ℕ, zero, suc, max, ◌+◌, ◌-◌, ◌<◌, ◌≤◌, List, [], ◌∷◌, ◌++◌, length, drop, map, get_or, slice_set, append_assoc, ap, sym, ◌∙◌, arith}
+use Rattle.std.specs.Prelude.{flat_map}
 use Rattle.std.specs.List.{range_with_len, sum_by}
 use Rattle.std.proofs.Math.Seq.{set-append_seam}
-use Rattle.std.proofs.lemmas.List.{drop_more, map_push}
+use Rattle.std.proofs.lemmas.List.{append-nil, drop_more, map_push}
 use Rattle.std.proofs.lemmas.List.FromFn.{length-map-range_with_len}
 use Rattle.std.proofs.lemmas.List.Sums.{sum_by_push}
 use Rattle.yew_flow.specs.Instance.{Instance, time_on}
@@ -53,3 +54,17 @@ done-at instance ends job zero some = absurd (omega (arith, some))
 done-at instance ends job (suc j) some =
     let place : j ≡ suc j - 1 = omega arith in
     ap (λ k. max (get_or ends k 0) (done_on instance ends job k) + time_on instance job (suc j)) place
+
+-- one more row
+pub rows-more : (f : ℕ → List ℕ) (k : ℕ) → 1 ≤ k → flat_map f (range_with_len 1 (k + 1 - 1)) ≡ flat_map f (range_with_len 1 (k - 1)) ++ f k
+rows-more f k some =
+    let long : k + 1 - 1 ≡ k - 1 + 1 = omega (arith, some) in
+    let last : 1 + (k - 1) ≡ k = omega (arith, some) in
+    ap (λ n. flat_map f (range_with_len 1 n)) long
+    ∙ ap (flat_map f) (range-more 1 (k - 1))
+    ∙ rows-push (range_with_len 1 (k - 1)) (1 + (k - 1))
+    ∙ ap (λ j. flat_map f (range_with_len 1 (k - 1)) ++ f j) last
+  where
+    rows-push : (xs : List ℕ) (y : ℕ) → flat_map f (xs ++ y ∷ []) ≡ flat_map f xs ++ f y
+    rows-push [] y = append-nil (f y)
+    rows-push (x ∷ xs) y = ap (λ ys. f x ++ ys) (rows-push xs y) ∙ sym (append_assoc (f x) (flat_map f xs) (f y))

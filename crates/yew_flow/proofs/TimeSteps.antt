@@ -30,10 +30,6 @@ abbrev limit_of : ℕ → Limited
 limit_of time = record { number = time; limit = 1048575 }
 
 module _ (jobs machines : ℕ) where
-  -- no times are read yet
-  pub no_times : (at : Position) (past : Option Past) → option_map limited past ≡ first_past (head_limits jobs machines) → SomeTimes at jobs machines 0 [] past at
-  no_times at past is = record { times = []; goes_on = refl; count_is = refl; past_is = is; kept_are = λ none. refl }
-
   module _ (count : ℕ) (few : count < jobs * machines) (start at : Position) (kept : List ℕ) (past : Option Past) (read : SomeTimes start jobs machines count kept past at) where
     due : flow_shape (jobs ∷ machines ∷ read.times) ≡ due_number
     due =

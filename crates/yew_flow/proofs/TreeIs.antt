@@ -1,5 +1,5 @@
 -- The members of the tree with all jobs are the orders, each once.
-use Rattle.std.proofs.Common.{◌≡◌, ◌≢◌, ℕ, suc, ◌+◌, ◌-◌, ◌≤◌, ◌<◌, ◌^◌, ◌∙◌, true, ◌&&◌, ◌==◌, List, [], ◌∷◌, length, Some, refl, ap, ap₂, sym, subst, inl, inr, arith}
+use Rattle.std.proofs.Common.{◌≡◌, ◌≢◌, ℕ, ◌+◌, ◌-◌, ◌≤◌, ◌<◌, ◌^◌, ◌∙◌, true, ◌&&◌, ◌==◌, List, [], ◌∷◌, length, Some, refl, ap, ap₂, sym, subst, inl, inr, arith}
 use Rattle.std.specs.List.{AllByRecursion, Contains, range_with_len}
 use Rattle.std.proofs.lemmas.Bool.{and_from, and_parts, cases_lt, cases_eq}
 use Rattle.std.proofs.lemmas.Bool.Decides.{nat_tests}
@@ -16,7 +16,7 @@ use Rattle.yew_flow.specs.Answers.{orders_tree, IsFound, TreeOrders}
 use Rattle.yew_flow.specs.BoundLaws.{span-small, worth-whole, worth-part}
 use Rattle.yew_flow.specs.Instance.{Instance, IsWithinLimits}
 use Rattle.yew_flow.specs.Lists.{filter-different, filter-every, length-range, range-all, within-all}
-use Rattle.yew_flow.specs.NodeLaws.{orders-ranked, root-sound, length-jobs}
+use Rattle.yew_flow.specs.NodeLaws.{orders-ranked, root-sound}
 use Rattle.yew_flow.specs.Nodes.{jobs_of, root_of, children_of, worth_of, IsNode}
 use Rattle.yew_flow.specs.Orders.{is_order, makespan, IsLeastMakespan}
 use Rattle.yew_flow.proofs.Paths.{one_path, reaches}

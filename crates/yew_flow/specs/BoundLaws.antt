@@ -1,7 +1,7 @@
 -- The bound of a node: no order that begins with its list is done earlier.
-use Rattle.std.specs.Prelude.{◌≡◌, ◌≢◌, ℕ, ◌+◌, ◌-◌, ◌*◌, ◌<◌, ◌≤◌, ◌^◌, Bool, true, false, min, max, ◌==◌, List, [], ◌∷◌, ◌++◌, length, map, filter, sum_by, refl, if◌then◌else◌}
+use Rattle.std.specs.Prelude.{◌≡◌, ◌≢◌, ℕ, ◌+◌, ◌-◌, ◌*◌, ◌<◌, ◌≤◌, ◌^◌, true, false, min, max, ◌==◌, List, [], ◌∷◌, ◌++◌, length, map, sum_by, refl, if◌then◌else◌}
 use Rattle.std.specs.List.{AllByRecursion, range_with_len}
-use Rattle.std.proofs.Common.{zero, suc, ap, ap₂, sym, subst, ◌∙◌, arith, inl, inr, get_or}
+use Rattle.std.proofs.Common.{zero, suc, ap, sym, subst, ◌∙◌, arith, inl, inr, get_or}
 use Rattle.std.proofs.lemmas.List.{nil_from_length}
 use Rattle.std.proofs.lemmas.Bool.{cases_eq}
 use Rattle.std.proofs.lemmas.Bool.Decides.{nat_tests}
@@ -13,7 +13,7 @@ use Rattle.yew_flow.specs.declared.nodes.FlowNode.{FlowNode}
 use Rattle.yew_flow.specs.CompletionLaws.{completion-rises, completed-push, last-rises}
 use Rattle.yew_flow.specs.Instance.{Instance, IsWithinLimits, time_on}
 use Rattle.yew_flow.specs.Lists.{filter-all, is_other, length-range, range-all, member-all}
-use Rattle.yew_flow.specs.NodeLaws.{IsFree, free-listed, absent-push, absent-less, time-less, length-jobs, jobs-appended, IsAppended, children-appended, orders-ranked}
+use Rattle.yew_flow.specs.NodeLaws.{IsFree, free-listed, absent-push, time-less, length-jobs, jobs-appended, IsAppended, children-appended, orders-ranked}
 use Rattle.yew_flow.specs.Nodes.{all_machines, absent_from, completed, time_of_all, later_time, least_with, least_of, greatest_of, lower_on, lower_of, jobs_of, children_of, worth_of, bound_of, IsNode}
 use Rattle.yew_flow.specs.Orders.{completion, makespan}
 
@@ -41,7 +41,7 @@ least-all f [] = tt
 least-all f (x ∷ xs) = let l = least_with-all f (f x) xs in (l.own, l.others)
 
 -- what is at most each of some is at most their least
-least_with-above : (f : ℕ → ℕ) (b a : ℕ) (xs : List ℕ) → b ≤ a → AllByRecursion (λ x. b ≤ f x) xs → b ≤ least_with a (map f xs)
+pub least_with-above : (f : ℕ → ℕ) (b a : ℕ) (xs : List ℕ) → b ≤ a → AllByRecursion (λ x. b ≤ f x) xs → b ≤ least_with a (map f xs)
 least_with-above f b a [] l h = l
 least_with-above f b a (x ∷ xs) l h = let rest = least_with-above f b (f x) xs h.0 h.1 in omega (arith, l, rest)
 
@@ -123,7 +123,9 @@ module _ (instance : Instance) (xs : List ℕ) (job : ℕ) (free : IsFree instan
   machine-rises j l [] e =
       let less = time-less instance xs job free (suc j) in
       let none : time_of_all instance (absent_from instance all) (suc j) ≡ 0 = ap (λ cs. time_of_all instance cs (suc j)) e in
-      let least = member-all (λ c. least_of (map (later_time instance (suc j)) (absent_from instance xs)) ≤ later_time instance (suc j) c) (absent_from instance xs) job (least-all (later_time instance (suc j)) (absent_from instance xs)) (free-listed instance xs job free) in
+      let f = later_time instance (suc j) in
+      let absent = absent_from instance xs in
+      let least = member-all (λ c. least_of (map f absent) ≤ f c) absent job (least-all f absent) (free-listed instance xs job free) in
       let done = job-done j in
       let last : suc j + (instance.machines - suc j) ≡ instance.machines = omega (arith, l) in
       let rises : completed instance all (suc j) + later_time instance (suc j) job ≤ completed instance all instance.machines =

@@ -1,14 +1,14 @@
 -- When the jobs of a list are done, one job after another.
-use Rattle.std.specs.Prelude.{◌≡◌, ℕ, ◌+◌, ◌-◌, ◌*◌, ◌<◌, ◌≤◌, ◌^◌, max, List, [], ◌∷◌, ◌++◌, length, take, drop, map, sum_by, slice_index, refl}
+use Rattle.std.specs.Prelude.{◌≡◌, ℕ, ◌+◌, ◌<◌, ◌≤◌, max, List, [], ◌∷◌, ◌++◌, length, take, drop, map, sum_by, slice_index, refl}
 use Rattle.std.specs.List.{AllByRecursion, range_with_len}
 use Rattle.std.proofs.Common.{zero, suc, ap, ap₂, sym, subst, ◌∙◌, arith, get_or}
 use Rattle.std.proofs.Math.Seq.{get_or-append_seam}
 use Rattle.std.proofs.lemmas.List.{get_or-take, get_or_append_left, length_push, length-append, length-drop, take-append-le}
 use Rattle.std.proofs.lemmas.List.FromFn.{get_or-map-range_with_len, length-map-range_with_len}
 use Rattle.std.proofs.lemmas.List.Sums.{sum_by-cons}
-use Rattle.yew_flow.specs.Instance.{Instance, IsWithinLimits, time_on}
+use Rattle.yew_flow.specs.Instance.{Instance, time_on}
 use Rattle.yew_flow.specs.Lists.{range-all}
-use Rattle.yew_flow.specs.Nodes.{all_machines, completed, later_time, with_machines, done_on}
+use Rattle.yew_flow.specs.Nodes.{all_machines, completed, with_machines, done_on}
 use Rattle.yew_flow.specs.Orders.{completion}
 
 -- ---- rows of numbers, one for each machine
@@ -81,7 +81,8 @@ module _ (instance : Instance) where
       ∙ ap (λ job. max (completed instance xs (suc j)) (completed instance all j) + time_on instance job (suc j)) (get_or-append_seam xs c [] 0)
 
   -- what is computed from the row of a list is the row of the list with one more job
-  pub done-completed : (xs ends : List ℕ) (c j : ℕ) → take instance.machines ends ≡ map (completed instance xs) (all_machines instance) → j ≤ instance.machines → done_on instance ends c j ≡ completed instance (xs ++ c ∷ []) j
+  pub done-completed : (xs ends : List ℕ) (c j : ℕ) → take instance.machines ends ≡ map (completed instance xs) (all_machines instance) → j ≤ instance.machines
+      → done_on instance ends c j ≡ completed instance (xs ++ c ∷ []) j
   done-completed xs ends c zero e l = sym (completion-zero (xs ++ c ∷ []) (length (xs ++ c ∷ [])))
   done-completed xs ends c (suc j) e l =
       ap₂ (λ a b. max a b + time_on instance c (suc j)) (row-at instance ends (completed instance xs) j e (omega (arith, l))) (done-completed xs ends c j e (omega (arith, l)))

@@ -1,5 +1,5 @@
 -- Lists of numbers: what a test keeps of a range, one more number at the end, one number taken out.
-use Rattle.std.specs.Prelude.{◌≡◌, ◌≢◌, ℕ, ◌+◌, ◌-◌, ◌<◌, ◌≤◌, Bool, true, false, not, ◌&&◌, ◌||◌, ◌==◌, List, [], ◌∷◌, ◌++◌, length, filter, sum_by, slice_get, Some, nat_le, refl}
+use Rattle.std.specs.Prelude.{◌≡◌, ◌≢◌, ℕ, ◌+◌, ◌<◌, ◌≤◌, Bool, true, false, not, ◌&&◌, ◌||◌, ◌==◌, List, [], ◌∷◌, ◌++◌, length, filter, sum_by, slice_get, Some, nat_le, refl}
 use Rattle.std.specs.List.{AllByRecursion, range_with_len}
 use Rattle.std.proofs.Common.{zero, suc, cond, ap, ap₂, sym, subst, ◌∙◌, arith, inl, inr}
 use Rattle.std.proofs.lemmas.Bool.{and_from, and_parts, cases_eq, le-leb, leb-true, true≢false}
@@ -75,13 +75,6 @@ range-append a (suc n) m =
     let f : a + 1 + n ≡ a + suc n = omega arith in
     ap (range_with_len a) e ∙ ap (λ ks. a ∷ ks) (range-append (a + 1) n m ∙ ap (λ b. range_with_len (a + 1) n ++ range_with_len b m) f)
 
--- one more number at the end of a range from 1 on
-pub range-push : (k : ℕ) → 1 ≤ k → range_with_len 1 (k + 1 - 1) ≡ range_with_len 1 (k - 1) ++ k ∷ []
-range-push k some =
-    let long : k + 1 - 1 ≡ k - 1 + 1 = omega arith in
-    let last : 1 + (k - 1) ≡ k = omega arith in
-    ap (range_with_len 1) long ∙ range-append 1 (k - 1) 1 ∙ ap (λ j. range_with_len 1 (k - 1) ++ j ∷ []) last
-
 -- what a test keeps of a range and of a shorter one in it
 pub filter-range : (p : ℕ → Bool) (a n m l : ℕ) → ((k : ℕ) → k < a + n → a ≤ k → p k ≡ false) → ((k : ℕ) → a + n + m ≤ k → p k ≡ false) → filter p (range_with_len a (n + (m + l))) ≡ filter p (range_with_len (a + n) m)
 filter-range p a n m l before after =
@@ -111,12 +104,6 @@ or_false false = refl
 
 pub contains-push : (xs : List ℕ) (c y : ℕ) → contains (xs ++ c ∷ []) y ≡ (contains xs y || c == y)
 contains-push xs c y = contains-append xs (c ∷ []) y ∙ ap (λ b. contains xs y || b) (or_false (c == y))
-
-pub contains-last : (xs : List ℕ) (c : ℕ) → contains (xs ++ c ∷ []) c ≡ true
-contains-last xs c = contains-push xs c c ∙ itself (contains xs c)
-  where
-    itself : (b : Bool) → (b || c == c) ≡ true
-    itself b = grind (arith, nat_tests)
 
 -- what holds of each member
 pub member-all : (P : ℕ → Type 0) (xs : List ℕ) (c : ℕ) → AllByRecursion P xs → contains xs c ≡ true → P c

@@ -1,8 +1,8 @@
 -- The children of a node are nodes, of less rank.
-use Rattle.std.specs.Prelude.{◌≡◌, ◌≢◌, ℕ, ◌+◌, ◌-◌, ◌<◌, ◌≤◌, ◌^◌, Bool, true, false, not, ◌&&◌, ◌||◌, ◌==◌, List, [], ◌∷◌, ◌++◌, length, take, map, filter, sum_by, slice_index, replicate, refl}
+use Rattle.std.specs.Prelude.{◌≡◌, ◌≢◌, ℕ, ◌+◌, ◌-◌, ◌<◌, ◌≤◌, ◌^◌, Bool, true, false, not, ◌&&◌, ◌||◌, ◌==◌, List, [], ◌∷◌, ◌++◌, length, take, map, filter, slice_index, replicate, refl}
 use Rattle.std.specs.Int.{bit_at, w64}
 use Rattle.std.specs.List.{AllByRecursion, range_with_len}
-use Rattle.std.proofs.Common.{zero, suc, cond, ap, ap₂, sym, subst, ◌∙◌, arith}
+use Rattle.std.proofs.Common.{zero, suc, cond, ap, sym, subst, ◌∙◌, arith}
 use Rattle.std.proofs.lemmas.Bool.Decides.{nat_tests}
 use Rattle.std.proofs.lemmas.List.{length-set, take_more_set, length-take-le, length-map}
 use Rattle.std.proofs.lemmas.Nat.Bits.{bit_at_clear_same, bit_at_clear_other, bit_at_mask_inside, bit_at_mask_below, bit_at_mask_above}
@@ -11,7 +11,7 @@ use Rattle.yew_laws.specs.Tree.{IsRanked}
 use Rattle.yew_laws.proofs.Members.{AllByRecursion-weaker, AllByRecursion-map}
 use Rattle.yew_flow.specs.declared.nodes.FlowNode.{FlowNode}
 use Rattle.yew_flow.specs.Bits.{bits_of}
-use Rattle.yew_flow.specs.CompletionLaws.{map-agree, machines-agree, row-at, row-front, row-size, done-completed}
+use Rattle.yew_flow.specs.CompletionLaws.{machines-agree, row-at, row-front, row-size, done-completed}
 use Rattle.yew_flow.specs.Instance.{Instance, IsWithinLimits, time_on}
 use Rattle.yew_flow.specs.Lists.{filter-all, filter-passes, filter-agree, filter-every, filter-filter, filter-range, filter-different, filter-contains, length-range, range-all, contains-push, is_other, length-without, sum_by-without, different-push, within-push}
 use Rattle.yew_flow.specs.Nodes.{all_jobs, all_machines, absent_from, completed, time_of_all, jobs_of, jobs_in, cleared, root_of, done_on, appended, children_of, rank_of, IsNode}
@@ -186,7 +186,7 @@ module _ (instance : Instance) (node : FlowNode) (sound : IsNode instance node) 
         let own : slice_index node.rest (suc machine - 1) ≡ time_of_all instance (absent_from instance before) (suc machine) =
         ap (slice_index node.rest) place ∙ row-at instance node.rest (time_of_all instance (absent_from instance before)) machine sound.rest_are l in
         let less = time-less instance before job free (suc machine) in
-        let same : time_of_all instance (absent_from instance (jobs_of longer)) (suc machine) ≡ time_of_all instance (absent_from instance (before ++ job ∷ [])) (suc machine) = ap (λ xs. time_of_all instance (absent_from instance xs) (suc machine)) jobs-appended in
+        let same = ap (λ xs. time_of_all instance (absent_from instance xs) (suc machine)) jobs-appended in
         omega (arith, own, less, same)
 
     -- the list with the job is a node

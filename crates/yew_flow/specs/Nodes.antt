@@ -1,5 +1,5 @@
 -- The tree of the lists of different jobs.
-use Rattle.std.specs.Prelude.{◌≡◌, ℕ, ◌+◌, ◌-◌, ◌^◌, true, not, List, [], ◌∷◌, ◌++◌, length, take, drop, map, filter, sum_by, min, max, replicate, slice_index, slice_set, ◌==◌, ◌/◌, ◌%◌, ◌*◌, bit_and, nat_le, if◌then◌else◌}
+use Rattle.std.specs.Prelude.{◌≡◌, ℕ, ◌+◌, ◌-◌, ◌^◌, true, not, List, [], ◌∷◌, ◌++◌, length, take, drop, map, filter, flat_map, sum_by, min, max, replicate, slice_index, slice_set, ◌==◌, ◌/◌, ◌%◌, ◌*◌, bit_and, nat_le, nat_lt, if◌then◌else◌}
 use Rattle.std.proofs.Common.{zero, suc}
 use Rattle.std.specs.Int.{bit_not, w64}
 use Rattle.std.specs.List.{range_with_len}
@@ -42,6 +42,28 @@ later_entry instance place = if nat_le (place % 64 + 1) instance.jobs then later
 -- the table of all machines
 abbrev pub later_table : Instance → List ℕ
 later_table instance = map (later_entry instance) (range_with_len 0 (64 * instance.machines))
+
+-- what a place has in the row of a machine of such a table. The place of a job is its number less 1
+abbrev pub later_in : List ℕ → ℕ → ℕ → ℕ
+later_in later machine place = slice_index later ((machine - 1) * 64 + place % 64)
+
+-- a place put in front of the first one that has more
+abbrev pub put_in : (ℕ → ℕ) → ℕ → List ℕ → List ℕ
+put_in value x [] = x ∷ []
+put_in value x (y ∷ ys) = if nat_lt (value x) (value y) then x ∷ y ∷ ys else y ∷ put_in value x ys
+
+-- some places put in one after another
+abbrev pub all_put_in : (ℕ → ℕ) → List ℕ → List ℕ → List ℕ
+all_put_in value order [] = order
+all_put_in value order (x ∷ xs) = all_put_in value (put_in value x order) xs
+
+-- the places of so many jobs by what they have in the row of a machine
+abbrev pub places_by : List ℕ → ℕ → ℕ → List ℕ
+places_by later jobs machine = all_put_in (later_in later machine) [] (range_with_len 0 jobs)
+
+-- those of all machines
+abbrev pub places_table : Instance → List ℕ
+places_table instance = flat_map (places_by (later_table instance) instance.jobs) (all_machines instance)
 
 -- the least of a number and of some more
 abbrev pub least_with : ℕ → List ℕ → ℕ

@@ -1,10 +1,11 @@
 //! What a permutation flow shop is about: its jobs, its machines, and the time of each job on each machine.
 
-ghost use Rattle.std.specs.Prelude.{◌≡◌, ◌*◌, ◌<◌, ◌≤◌, length, replicate, IfOk};
+ghost use Rattle.std.specs.Prelude.{◌≡◌, ◌*◌, ◌<◌, ◌≤◌, length, replicate, slice_index, IfOk};
 ghost use Rattle.yew_flow.specs.Instance.{Instance, IsWithinLimits, time_on as time_of_job};
-ghost use Rattle.yew_flow.specs.Nodes.{all_jobs, time_of_all, later_time, later_entry, later_table, with_machines};
+ghost use Rattle.yew_flow.specs.Nodes.{all_jobs, time_of_all, later_time, later_entry, later_table, later_in, places_by, with_machines};
 
 use crate::nodes::FlowNode;
+use crate::order::{later_at_place, orders_of};
 use std::alloc::Global;
 use std::marker::Model;
 use yew_laws::Memory;
@@ -64,7 +65,7 @@ fn later_sum(jobs: usize, machines: usize, times: &[u32], machine: usize, job: u
 
 /// How many places a machine has in the table of later times: one for each of at most 64 jobs. A power of two makes the
 /// look-up a shift.
-const ROW: usize = 64;
+pub(crate) const ROW: usize = 64;
 
 /// What stands at a place of the table of later times: how long a job takes on the machines after one, and 0 behind the
 /// last job.
@@ -94,13 +95,15 @@ fn later_of(alloc: Global, jobs: usize, machines: usize, times: &[u32]) -> Resul
 }
 
 /// A permutation flow shop: the numbers of jobs and of machines, and the time of each job on each machine. Beside them it
-/// keeps how long each job takes on the machines after each one, and the root of its tree.
+/// keeps how long each job takes on the machines after each one, for each machine the jobs by that time, and the root of its
+/// tree.
 #[derive(Drop)]
 pub struct Flow {
     jobs: usize,
     machines: usize,
     times: Vec<u32>,
     later: Vec<u32>,
+    order: Vec<u8>,
     root: FlowNode,
 }
 
@@ -110,12 +113,12 @@ impl Model for Flow {
 
     ghost Value = { Instance };
 
-    ghost use Rattle.yew_flow.specs.Nodes.{later_table, root_of};
+    ghost use Rattle.yew_flow.specs.Nodes.{later_table, places_table, root_of};
 
     ghost view = { λ t. record { jobs = t.jobs; machines = t.machines; times = t.times.items } };
 
     ghost invariant = { λ t. let instance : Instance = record { jobs = t.jobs; machines = t.machines; times = t.times.items } in
-        (t.later.items ≡ later_table instance) × (t.root ≡ root_of instance) };
+        (t.later.items ≡ later_table instance) × (t.order.items ≡ places_table instance) × (t.root ≡ root_of instance) };
 }
 
 impl Flow {
@@ -128,12 +131,14 @@ impl Flow {
     {
         let alloc = *times.allocator();
         let later = later_of(alloc, jobs, machines, times.as_slice())?;
+        let order = orders_of(alloc, later.as_slice(), jobs, machines)?;
         let root = FlowNode::root(jobs, totals(jobs, machines, times.as_slice()));
         Ok(Flow {
             jobs,
             machines,
             times,
             later,
+            order,
             root,
         })
     }
@@ -179,14 +184,32 @@ impl Flow {
         )
     }
 
-    /// How long a job takes on the machines after one.
+    /// The place of the job of a rank among all jobs by their times on the machines after one.
     #[inline(always)]
-    pub(crate) fn later(&self, machine: usize, job: usize) -> u32
+    pub(crate) fn ranked(&self, machine: usize, rank: usize) -> u8
         requires limits { IsWithinLimits self.now }
         requires machine { (1 ≤ machine) × (machine ≤ self.now.machines) }
-        requires job { (1 ≤ job) × (job ≤ self.now.jobs) }
-        ensures { result ≡ later_time self.now machine job }
+        requires rank { rank < self.now.jobs }
+        ensures { result ≡ slice_index (places_by (later_table self.now) self.now.jobs machine) rank }
     {
-        self.later[(machine - 1) * ROW + (job - 1)]
+        self.order[(machine - 1) * self.jobs + rank]
+    }
+
+    /// The number of jobs.
+    #[inline(always)]
+    pub(crate) fn jobs(&self) -> usize
+        ensures { result ≡ self.now.jobs }
+    {
+        self.jobs
+    }
+
+    /// What the job of a place takes on the machines after one.
+    #[inline(always)]
+    pub(crate) fn later(&self, machine: usize, place: u8) -> u32
+        requires limits { IsWithinLimits self.now }
+        requires machine { (1 ≤ machine) × (machine ≤ self.now.machines) }
+        ensures { result ≡ later_in (later_table self.now) machine place }
+    {
+        later_at_place(self.later.as_slice(), machine, place)
     }
 }

@@ -12,6 +12,7 @@
 mod flow;
 pub mod laws;
 mod nodes;
+mod order;
 mod problem;
 mod reading;
 #[cfg(test)]

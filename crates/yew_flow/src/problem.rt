@@ -72,18 +72,13 @@ impl Flow {
         requires machine { (1 ≤ machine) × (machine ≤ self.now.machines) }
         ensures { result ≡ least_of (map (later_time self.now machine) (jobs_in absent)) }
     {
-        if absent == 0 {
-            return 0;
+        for rank in 0..self.jobs() {
+            let place = self.ranked(machine, rank);
+            if absent >> (place % 64) & 1 == 1 {
+                return self.later(machine, place);
+            }
         }
-        let first = absent.trailing_zeros();
-        let mut least = self.later(machine, first as usize + 1);
-        let mut left = absent & !(1 << first);
-        while left != 0 {
-            let place = left.trailing_zeros();
-            least = least.min(self.later(machine, place as usize + 1));
-            left &= !(1 << place);
-        }
-        least
+        0
     }
 
     /// What one machine tells of the orders that begin with a node's list: none is done earlier.

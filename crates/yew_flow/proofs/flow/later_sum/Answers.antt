@@ -1,4 +1,4 @@
-use Rattle.std.proofs.Common.{◌≡◌, ◌+◌, ◌-◌, ◌*◌, ◌≤◌, ap, ◌∙◌, arith}
+use Rattle.std.proofs.Common.{◌≡◌, ◌+◌, ◌-◌, ◌*◌, ap, ◌∙◌, arith}
 use Rattle.std.specs.List.{range_with_len, sum_by}
 use Rattle.yew_flow.specs.BoundLaws.{sum-small, time-small}
 use Rattle.yew_flow.specs.Instance.{Instance, time_on}

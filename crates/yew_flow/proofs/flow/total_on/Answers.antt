@@ -1,9 +1,8 @@
-use Rattle.std.proofs.Common.{◌≡◌, ◌+◌, ◌-◌, ◌*◌, ◌≤◌, ap, ◌∙◌, arith}
+use Rattle.std.proofs.Common.{◌-◌, ◌*◌, ap, arith}
 use Rattle.std.specs.List.{range_with_len}
 use Rattle.yew_flow.specs.BoundLaws.{sum-small, time-small}
 use Rattle.yew_flow.specs.Instance.{Instance, time_on}
 use Rattle.yew_flow.specs.Lists.{length-range}
-use Rattle.yew_flow.specs.Nodes.{time_of_all}
 use Rattle.yew_flow.proofs.Rows.{sum-more}
 use Rattle.yew_flow.proofs.flow.total_on.Goals as goal
 

@@ -1,4 +1,4 @@
-use Rattle.std.proofs.Common.{◌∙◌, ◌<◌, subst}
+use Rattle.std.proofs.Common.{◌∙◌}
 use Rattle.yew_flow.proofs.TimeSteps.{time-fault, time-read}
 use Rattle.yew_flow.proofs.reading.read_times.Goals as goal
 

@@ -1,5 +1,4 @@
-use Rattle.std.proofs.Common.{◌≡◌, ◌+◌, ◌-◌, ◌≤◌, ◌∙◌, max, length, get_or, ap, sym, arith}
-use Rattle.yew_flow.specs.Instance.{time_on}
+use Rattle.std.proofs.Common.{◌≡◌, ◌+◌, ◌-◌, ◌≤◌, ◌∙◌, length, ap, arith}
 use Rattle.yew_flow.specs.Nodes.{done_on}
 use Rattle.yew_flow.proofs.Rows.{front, front-machine, done-at}
 use Rattle.yew_flow.proofs.flow.Flow.ends_behind.Goals as goal

@@ -1,60 +1,59 @@
-use Rattle.std.proofs.Common.{◌≡◌, ◌+◌, ◌^◌, ◌<◌, ◌≤◌, min, [], ◌∷◌, length, map, ap, sym, subst, ◌∙◌, arith}
-use Rattle.std.specs.Int.{trailing_zeros, w64}
-use Rattle.std.specs.List.{AllByRecursion}
-use Rattle.yew_flow.specs.Nodes.{later_time, least_with, least_of, jobs_in, cleared}
-use Rattle.yew_flow.proofs.Leasts.{least_with-step, jobs_in-first, jobs_in-none}
+use Rattle.std.proofs.Common.{◌≡◌, ◌≢◌, ℕ, zero, suc, ◌+◌, ◌%◌, ◌<◌, ◌≤◌, Bool, true, false, cond, ◌==◌, List, [], ◌∷◌, length, drop, get_or, Some, refl, ap, sym, ◌∙◌, arith}
+use Rattle.std.specs.Int.{bit_at}
+use Rattle.std.specs.List.{find}
+use Rattle.std.proofs.lemmas.Bool.Decides.{nat_tests}
+use Rattle.std.proofs.lemmas.List.{drop_more}
+use Rattle.std.proofs.lemmas.Nat.Bits.{shr_and_one}
+use Rattle.yew_flow.specs.Nodes.{later_table, places_by}
+use Rattle.yew_flow.proofs.FirstLeast.{is_absent, found-least, found-none, length-places}
 use Rattle.yew_flow.proofs.flow.Flow.least_later.Goals as goal
 
-pub returns-then-absent-eq0 : goal.returns-then-absent-eq0
-returns-then-absent-eq0 c =
-    sym (ap (λ word. least_of (map (later_time c.args.self.now c.args.machine) (jobs_in word))) c.if-absent-eq0.true ∙ ap (λ jobs. least_of (map (later_time c.args.self.now c.args.machine) jobs)) jobs_in-none)
+set_test : (b : ℕ) → b ≡ 1 → (b == 1) ≡ true
+set_test b e = grind (arith, nat_tests)
 
-pub later-least-requires-clause-job : goal.later-least-requires-clause-job
-later-least-requires-clause-job c =
-    let fits : c.args.absent < 2 ^ 64 = omega arith in
-    (subst (AllByRecursion (λ job. (1 ≤ job) × (job ≤ c.args.self.now.jobs))) (jobs_in-first c.args.absent c.if-absent-eq0.false fits) c.requires.absent).0
+clear_test : (b : ℕ) → b ≢ 1 → (b == 1) ≡ false
+clear_test b e = grind (arith, nat_tests)
 
-pub loop-left-init : goal.loop-left-init
-loop-left-init c =
-    let fits : c.args.absent < 2 ^ 64 = omega arith in
-    let f = later_time c.args.self.now c.args.machine in
-    let first = jobs_in-first c.args.absent c.if-absent-eq0.false fits in
-    record {
-      jobs = (subst (AllByRecursion (λ job. (1 ≤ job) × (job ≤ c.args.self.now.jobs))) first c.requires.absent).1;
-      least_is =
-          ap (λ l. least_with l (map f (jobs_in (cleared c.args.absent (trailing_zeros w64 c.args.absent))))) c.later-least.ensures
-          ∙ sym (ap (λ jobs. least_of (map f jobs)) first);
-    }
+drop-end : (xs : List ℕ) (k : ℕ) → length xs ≤ k → drop k xs ≡ []
+drop-end [] zero l = refl
+drop-end [] (suc k) l = refl
+drop-end (x ∷ xs) zero l = absurd (omega (arith, l))
+drop-end (x ∷ xs) (suc k) l = drop-end xs k (omega (arith, l))
 
-pub later-requires-clause-job : goal.later-requires-clause-job
-later-requires-clause-job c =
-    let fits : c.loop-left.left < 2 ^ 64 = omega arith in
-    (subst (AllByRecursion (λ job. (1 ≤ job) × (job ≤ c.args.self.now.jobs))) (jobs_in-first c.loop-left.left c.loop-left-test.true fits) c.loop-left.invariant.jobs).0
+module _ (p : ℕ → Bool) (row : List ℕ) (rank place : ℕ) (within : rank < length row) (is : place ≡ get_or row rank 0) where
+  front : find p (drop rank row) ≡ cond (p place) (Some place) (find p (drop (rank + 1) row))
+  front = ap (find p) (drop_more row rank 0 within) ∙ ap (λ x. cond (p x) (Some x) (find p (drop (rank + 1) row))) (sym is)
 
-pub loop-left-smaller : goal.loop-left-smaller
-loop-left-smaller c =
-    let fits : c.loop-left.left < 2 ^ 64 = omega arith in
-    let less = ap length (jobs_in-first c.loop-left.left c.loop-left-test.true fits) in
-    omega (arith, less)
+  stops : find p (drop rank row) ≡ find p row → p place ≡ true → find p row ≡ Some place
+  stops e own = sym e ∙ front ∙ ap (λ b. cond b (Some place) (find p (drop (rank + 1) row))) own
 
-pub loop-left-preserved : goal.loop-left-preserved
-loop-left-preserved c =
-    let fits : c.loop-left.left < 2 ^ 64 = omega arith in
-    let left = c.loop-left.left in
-    let f = later_time c.args.self.now c.args.machine in
-    let place = trailing_zeros w64 left in
-    let first = jobs_in-first left c.loop-left-test.true fits in
-    record {
-      jobs = (subst (AllByRecursion (λ job. (1 ≤ job) × (job ≤ c.args.self.now.jobs))) first c.loop-left.invariant.jobs).1;
-      least_is =
-          ap (λ l. least_with l (map f (jobs_in (cleared left place)))) (c.min-least.ensures ∙ ap (min c.loop-left.least) c.later.ensures)
-          ∙ least_with-step c.loop-left.least (f (place + 1)) (map f (jobs_in (cleared left place)))
-          ∙ ap (λ jobs. least_with c.loop-left.least (map f jobs)) (sym first)
-          ∙ c.loop-left.invariant.least_is;
-    }
+  goes_on : find p (drop rank row) ≡ find p row → p place ≡ false → find p (drop (rank + 1) row) ≡ find p row
+  goes_on e own = sym (front ∙ ap (λ b. cond b (Some place) (find p (drop (rank + 1) row))) own) ∙ e
+
+pub returns-then-absent-place-eq1 : goal.returns-then-absent-place-eq1
+returns-then-absent-place-eq1 c =
+    let row = places_by (later_table c.args.self.now) c.args.self.now.jobs c.args.machine in
+    let place = c.ranked-place.result in
+    let long = length-places (later_table c.args.self.now) c.args.self.now.jobs c.args.machine in
+    let within : c.loop-rank.rank < length row = omega (arith, long) in
+    let own = set_test (bit_at c.args.absent (place % 64)) (sym (shr_and_one c.args.absent (place % 64)) ∙ c.if-absent-place-eq1.true) in
+    c.later.ensures
+    ∙ found-least c.args.self.now c.requires.limits c.args.machine c.requires.machine.0 c.requires.machine.1 c.args.absent c.requires.absent place
+    (stops (is_absent c.args.absent) row c.loop-rank.rank place within c.ranked-place.ensures c.loop-rank.invariant own)
+
+pub loop-rank-preserved : goal.loop-rank-preserved
+loop-rank-preserved c =
+    let row = places_by (later_table c.args.self.now) c.args.self.now.jobs c.args.machine in
+    let place = c.ranked-place.result in
+    let long = length-places (later_table c.args.self.now) c.args.self.now.jobs c.args.machine in
+    let within : c.loop-rank.rank < length row = omega (arith, long) in
+    let own = clear_test (bit_at c.args.absent (place % 64)) (λ e. c.if-absent-place-eq1.false (shr_and_one c.args.absent (place % 64) ∙ e)) in
+    goes_on (is_absent c.args.absent) row c.loop-rank.rank place within c.ranked-place.ensures c.loop-rank.invariant own
 
 pub returns : goal.returns
 returns c =
-    let f = later_time c.args.self.now c.args.machine in
-    sym (ap (λ word. least_with c.loop-left.least (map f (jobs_in word))) c.loop-left-test.false ∙ ap (λ jobs. least_with c.loop-left.least (map f jobs)) jobs_in-none)
-    ∙ c.loop-left.invariant.least_is
+    let row = places_by (later_table c.args.self.now) c.args.self.now.jobs c.args.machine in
+    let long = length-places (later_table c.args.self.now) c.args.self.now.jobs c.args.machine in
+    let past : length row ≤ c.loop-rank.rank = omega (arith, long) in
+    found-none c.args.self.now c.requires.limits c.args.machine c.requires.machine.0 c.requires.machine.1 c.args.absent c.requires.absent
+    (sym c.loop-rank.invariant ∙ ap (find (is_absent c.args.absent)) (drop-end row c.loop-rank.rank past))

@@ -1,13 +1,8 @@
-use Rattle.std.proofs.Common.{◌≡◌, ◌≤◌, length, map}
-use Rattle.std.specs.List.{AllByRecursion}
-use Rattle.yew_flow.specs.Nodes.{later_time, least_with, least_of, jobs_in}
+use Rattle.std.proofs.Common.{◌≡◌, drop}
+use Rattle.std.specs.List.{find}
+use Rattle.yew_flow.specs.Nodes.{later_table, places_by}
+use Rattle.yew_flow.proofs.FirstLeast.{is_absent}
 use Rattle.yew_flow.proofs.flow.Flow.least_later.Given as goal
 
-abbrev pub invariant-loop-left : goal.invariant-loop-left
-invariant-loop-left l = record {
-  jobs : AllByRecursion (λ job. (1 ≤ job) × (job ≤ l.self.jobs)) (jobs_in l.left);
-  least_is : least_with l.least (map (later_time l.self l.machine) (jobs_in l.left)) ≡ least_of (map (later_time l.self l.machine) (jobs_in l.absent));
-}
-
-abbrev pub decreases-loop-left : goal.decreases-loop-left
-decreases-loop-left l = length (jobs_in l.left)
+abbrev pub invariant-loop-rank : goal.invariant-loop-rank
+invariant-loop-rank l = find (is_absent l.absent) (drop l.rank (places_by (later_table l.self) l.self.jobs l.machine)) ≡ find (is_absent l.absent) (places_by (later_table l.self) l.self.jobs l.machine)

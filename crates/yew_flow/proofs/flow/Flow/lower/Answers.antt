@@ -1,4 +1,4 @@
-use Rattle.std.proofs.Common.{◌≡◌, ◌-◌, ◌∙◌, max, map, ap, sym, arith}
+use Rattle.std.proofs.Common.{◌≡◌, ◌-◌, ◌∙◌, map, ap, arith}
 use Rattle.std.specs.List.{range_with_len}
 use Rattle.yew_flow.specs.Nodes.{greatest_of, lower_on, jobs_of}
 use Rattle.yew_flow.proofs.Bounds.{greatest-more}

@@ -1,8 +1,8 @@
-use Rattle.std.proofs.Common.{◌∙◌, ◌+◌, ◌^◌, ◌<◌, ◌∷◌, map, ap, sym, subst, arith}
+use Rattle.std.proofs.Common.{◌∙◌, ◌^◌, ◌<◌, ◌∷◌, map, ap, sym, subst, arith}
 use Rattle.std.specs.Int.{trailing_zeros, w64}
 use Rattle.std.specs.List.{AllByRecursion}
 use Rattle.yew_flow.specs.Nodes.{cleared, appended, jobs_in, IsNode}
-use Rattle.yew_flow.proofs.Leasts.{jobs_in-first, jobs_in-none}
+use Rattle.yew_flow.proofs.WordJobs.{jobs_in-first, jobs_in-none}
 use Rattle.yew_flow.proofs.problem.FlowProblem.next.Goals as goal
 
 pub returns-then-left-eq0-clause-ok : goal.returns-then-left-eq0-clause-ok
