@@ -91,7 +91,7 @@ module _ (graph : Graph) (number : ℕ) where
   }
 
   own-bound : (colours : List ℕ) → worth_of graph number colours ≤ bound_of number colours
-  own-bound colours = elim (length colours == graph.vertices) as (λ b. (if b then bound_of number colours else 0) ≤ bound_of number colours) [ true ↦ omega arith | false ↦ omega arith ]
+  own-bound colours = elim (length colours == graph.vertices) as (λ b. (if b then number + 1 - colours_used colours else 0) ≤ bound_of number colours) [ true ↦ omega arith | false ↦ omega arith ]
 
   child-bound : (colours child : List ℕ) → IsChild graph number colours child → bound_of number child ≤ bound_of number colours
   child-bound colours child a = let e = ap colours_used a.is ∙ colours_used-push colours a.colour in omega (arith, e)

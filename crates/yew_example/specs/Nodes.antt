@@ -11,7 +11,10 @@ with_colour colours colour = colours ++ colour ∷ []
 
 -- the next vertex gets each colour, from this one up, that no neighbour before it has
 abbrev pub children_from : Graph → ℕ → List ℕ → ℕ → List (List ℕ)
-children_from graph number colours low = if nat_lt (length colours) graph.vertices then map (with_colour colours) (filter (λ colour. is_proper graph (with_colour colours colour)) (range_with_len low (number - low))) else []
+children_from graph number colours low =
+    if nat_lt (length colours) graph.vertices
+    then map (with_colour colours) (filter (λ colour. is_proper graph (with_colour colours colour)) (range_with_len low (number - low)))
+    else []
 
 -- the children, by rising colour
 abbrev pub children_of : Graph → ℕ → List ℕ → List (List ℕ)

@@ -1,11 +1,13 @@
 //! What the searches of the tree say of the graph.
 
-ghost use Rattle.std.specs.Prelude.{◌≡◌, ◌≤◌, ◌↔◌, IfOk, IsTrue, MatchOption};
+ghost use Rattle.std.specs.Prelude.{◌≡◌, ◌≤◌, ◌↔◌, IfOk, IfErr, IsTrue, MatchOption};
 ghost use Rattle.yew_crew.specs.CrewSearch.{IsCrewAnswer};
 ghost use Rattle.yew_kinds.specs.Kinds.{IsKindInRange, IsExact};
 ghost use Rattle.yew_example.specs.Graphs.{HasColouring, IsLeastColouring};
 ghost use Rattle.yew_example.specs.Nodes.{colouring_tree};
-ghost use Rattle.yew_example.specs.Skeletons.{IsSkeleton};
+ghost use Rattle.yew_example.specs.Skeletons.{IsSkeleton, IsFault};
+ghost use Rattle.yew_kinds.specs.Wrappers.{clipped_tree};
+ghost use Rattle.yew_walk.specs.PlainSearch.{searched_tree};
 
 use crate::colours::Colours;
 use crate::problem::Colouring;
@@ -45,7 +47,8 @@ fn search<H: Threads + Wait + Sync>(
     requires range { IsKindInRange kind }
     requires exact { IsExact kind }
     requires skeleton { IsSkeleton skeleton }
-    ensures { IfOk result (λ answer. IsCrewAnswer (colouring_tree problem.now.graph problem.now.number) tt kind answer) }
+    ensures answer { IfOk result (λ answer. IsCrewAnswer (colouring_tree problem.now.graph problem.now.number) tt kind answer) }
+    ensures fault { IfErr result (IsFault (searched_tree (colouring_tree problem.now.graph problem.now.number) kind) skeleton) }
 {
     let found = match skeleton {
         Skeleton::Sequential => search_plain::<_, _, Counts>(alloc, problem, kind, &NoTally),
@@ -66,7 +69,7 @@ fn search<H: Threads + Wait + Sync>(
 ///
 /// # Errors
 ///
-/// Memory ran out, or there are more tasks than `Ordered` numbers.
+/// Memory ran out, or under `Ordered` there are more than 2^20 tasks and nodes above them.
 pub fn can_colour<H: Threads + Wait + Sync>(
     rt: &H,
     alloc: Global,
@@ -74,7 +77,8 @@ pub fn can_colour<H: Threads + Wait + Sync>(
     skeleton: Skeleton,
 ) -> Result<bool, SearchFault>
     requires { IsSkeleton skeleton }
-    ensures { IfOk result (λ yes. IsTrue yes ↔ HasColouring problem.now.graph problem.now.number) }
+    ensures answer { IfOk result (λ yes. IsTrue yes ↔ HasColouring problem.now.graph problem.now.number) }
+    ensures fault { IfErr result (IsFault (clipped_tree (colouring_tree problem.now.graph problem.now.number) 1) skeleton) }
 {
     match search(rt, alloc, problem, Kind::Reach(1), skeleton)? {
         Answer::Reach(path) => Ok(path.is_some()),
@@ -86,7 +90,7 @@ pub fn can_colour<H: Threads + Wait + Sync>(
 ///
 /// # Errors
 ///
-/// Memory ran out, or there are more tasks than `Ordered` numbers.
+/// Memory ran out, or under `Ordered` there are more than 2^20 tasks and nodes above them.
 pub fn least_colouring<H: Threads + Wait + Sync>(
     rt: &H,
     alloc: Global,
@@ -94,9 +98,10 @@ pub fn least_colouring<H: Threads + Wait + Sync>(
     skeleton: Skeleton,
 ) -> Result<Option<Colours>, SearchFault>
     requires { IsSkeleton skeleton }
-    ensures { IfOk result (λ found. MatchOption found
+    ensures answer { IfOk result (λ found. MatchOption found
         (¬ HasColouring problem.now.graph problem.now.number)
         (λ colours. IsLeastColouring problem.now.graph colours)) }
+    ensures fault { IfErr result (IsFault (colouring_tree problem.now.graph problem.now.number) skeleton) }
 {
     match search(rt, alloc, problem, Kind::Best, skeleton)? {
         Answer::Best {
