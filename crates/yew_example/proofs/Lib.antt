@@ -1,0 +1,2 @@
+pub mod ColouringTree
+pub mod NextChildren

@@ -1,0 +1,4 @@
+pub mod Graphs
+pub mod NodeLaws
+pub mod Nodes
+pub mod Skeletons
