@@ -2,8 +2,8 @@
 use Rattle.std.proofs.Common.{◌≡◌, ◌≢◌, ℕ, List, [], ◌∷◌, ◌++◌, refl}
 use Rattle.std.specs.List.{AllByRecursion}
 
--- the first such byte is at one place only
-pub cut-unique : (c : ℕ) (xs ys us vs : List ℕ) → AllByRecursion (λ b. b ≢ c) xs → AllByRecursion (λ b. b ≢ c) us → xs ++ c ∷ ys ≡ us ++ c ∷ vs → (xs ≡ us) × (ys ≡ vs)
+-- the first such member is at one place only
+pub cut-unique : {X : Type 0} (c : X) (xs ys us vs : List X) → AllByRecursion (λ b. b ≢ c) xs → AllByRecursion (λ b. b ≢ c) us → xs ++ c ∷ ys ≡ us ++ c ∷ vs → (xs ≡ us) × (ys ≡ vs)
 cut-unique c [] ys [] vs a b e = (refl, cc)
 cut-unique c [] ys (u ∷ us) vs a b e = absurd (b.0 (cc))
 cut-unique c (x ∷ xs) ys [] vs a b e = absurd (a.0 (cc))

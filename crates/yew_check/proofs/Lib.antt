@@ -5,3 +5,5 @@ mod EntryTexts
 mod LineRuns
 mod LogRuns
 mod AuditRuns
+mod OneReading
+mod ReadBack

@@ -7,9 +7,11 @@ use Rattle.std.proofs.lemmas.List.Elements.{All-from_recursion}
 use Rattle.std.proofs.lemmas.List.Splits.{slice_split-cons_yes, slice_split-cons_no, slice_split_at, slice_split_none}
 use Rattle.yew_text.proofs.Splitting.{has_first}
 use Rattle.yew_log.specs.AuditText.{step_text, path_text}
+use Rattle.std.proofs.lemmas.Fmt.{decimal_nonempty}
+use Rattle.yew_text.specs.Numbers.{value_of}
 use Rattle.yew_laws.proofs.Members.{AllByRecursion-weaker}
 use Rattle.yew_check.specs.Entries.{is_slash, IsPathWithin, greatest_step}
-use Rattle.yew_check.proofs.Numerals.{decimal-without}
+use Rattle.yew_check.proofs.Numerals.{decimal-without, decimal-value}
 use Rattle.yew_check.proofs.Cutting.{all-append}
 
 abbrev slashed : List ℕ → List ℕ
@@ -54,15 +56,15 @@ parts-behind ds (k ∷ ks) out within =
 pub path-parts : (k : ℕ) (ks : List ℕ) → IsPathWithin (k ∷ ks) → slice_split is_slash (decimal k ++ flat_map step_text ks) ≡ map decimal (k ∷ ks)
 path-parts k ks within = parts-behind (decimal k) ks (decimal-without 47 k (omega arith) (step-small k within.0)) within.1
 
-steps-without : (ks : List ℕ) → IsPathWithin ks → AllByRecursion (λ b. b ≢ 32) (flat_map step_text ks)
-steps-without [] within = tt
-steps-without (k ∷ ks) within =
-    ((λ e. absurd (omega arith)), all-append (λ b. b ≢ 32) (decimal k) (flat_map step_text ks) (decimal-without 32 k (omega arith) (step-small k within.0)) (steps-without ks within.1))
+steps-without : (c : ℕ) → c < 47 → (ks : List ℕ) → IsPathWithin ks → AllByRecursion (λ b. b ≢ c) (flat_map step_text ks)
+steps-without c low [] within = tt
+steps-without c low (k ∷ ks) within =
+    ((λ e. absurd (omega arith)), all-append (λ b. b ≢ c) (decimal k) (flat_map step_text ks) (decimal-without c k (omega arith) (step-small k within.0)) (steps-without c low ks within.1))
 
--- a path's text has no space
-pub path-without : (ks : List ℕ) → IsPathWithin ks → AllByRecursion (λ b. b ≢ 32) (path_text ks)
-path-without [] within = ((λ e. absurd (omega arith)), tt)
-path-without (k ∷ ks) within = steps-without (k ∷ ks) within
+-- a path's text has slashes and digits alone, and so no space and no line feed
+pub path-without : (c : ℕ) → c < 47 → (ks : List ℕ) → IsPathWithin ks → AllByRecursion (λ b. b ≢ c) (path_text ks)
+path-without c low [] within = ((λ e. absurd (omega arith)), tt)
+path-without c low (k ∷ ks) within = steps-without c low (k ∷ ks) within
 
 -- where the parts behind the first slash are no numbers of a path, the text is no path, unless nothing is behind the slash
 pub path-lacks : (steps : List ℕ) → 0 < length steps → ((path : List ℕ) → IsPathWithin path → slice_split is_slash steps ≢ map decimal path) → (path : List ℕ) → IsPathWithin path → 47 ∷ steps ≢ path_text path
@@ -97,3 +99,32 @@ step-at now (x ∷ xs) (k ∷ ks) (suc i) d less e within = let rest : map now x
 
 pub path-empty : (text : List ℕ) → text ≡ [] → (path : List ℕ) → text ≢ path_text path
 path-empty text none path e = path-some path (sym e ∙ none)
+
+decimals-same : (ps qs : List ℕ) → IsPathWithin ps → IsPathWithin qs → map decimal ps ≡ map decimal qs → ps ≡ qs
+decimals-same [] [] v w e = refl
+decimals-same [] (q ∷ qs) v w e = absurd (cc)
+decimals-same (p ∷ ps) [] v w e = absurd (cc)
+decimals-same (p ∷ ps) (q ∷ qs) v w e =
+    let first : decimal p ≡ decimal q = cc in
+    let rest : map decimal ps ≡ map decimal qs = cc in
+    let same : p ≡ q = sym (decimal-value p (step-small p v.0)) ∙ ap value_of first ∙ decimal-value q (step-small q w.0) in
+    let others = decimals-same ps qs v.1 w.1 rest in
+    cc
+
+no-steps : (k : ℕ) (ks : List ℕ) → IsPathWithin (k ∷ ks) → path_text [] ≢ path_text (k ∷ ks)
+no-steps k ks w e =
+    let empty : [] ≡ decimal k ++ flat_map step_text ks = cc in
+    let parts : [] ∷ [] ≡ decimal k ∷ map decimal ks = ap (slice_split is_slash) empty ∙ path-parts k ks w in
+    let none : [] ≡ decimal k = cc in
+    let some = decimal_nonempty k (step-small k w.0) in
+    let long = ap length none in
+    absurd (omega arith)
+
+-- a text is that of one path
+pub path-same : (ps qs : List ℕ) → IsPathWithin ps → IsPathWithin qs → path_text ps ≡ path_text qs → ps ≡ qs
+path-same [] [] v w e = refl
+path-same [] (q ∷ qs) v w e = absurd (no-steps q qs w e)
+path-same (p ∷ ps) [] v w e = absurd (no-steps p ps v (sym e))
+path-same (p ∷ ps) (q ∷ qs) v w e =
+    let tails : decimal p ++ flat_map step_text ps ≡ decimal q ++ flat_map step_text qs = cc in
+    decimals-same (p ∷ ps) (q ∷ qs) v w (sym (path-parts p ps v) ∙ ap (slice_split is_slash) tails ∙ path-parts q qs w)

@@ -7,7 +7,7 @@ use Rattle.yew_text.specs.declared.text.TextKind.TheVariants.{NotNumber, TooBig,
 use Rattle.yew_text.specs.Words.{end_line}
 use Rattle.yew_log.specs.Notes.{Note}
 use Rattle.yew_check.specs.Entries.{IsWithin, note_text}
-use Rattle.yew_check.specs.Lines.{text_lines}
+use Rattle.yew_check.specs.Lines.{text_lines, IsLineText}
 
 -- the line with which an audit begins, that of a worker, and the last line
 abbrev pub first_line : List ℕ
@@ -39,6 +39,13 @@ pub record AreWithin (logs : List (List Note)) : Type 0 where
 -- no line is the first one of an audit
 abbrev pub HasNoAudit : List (List ℕ) → Type 0
 HasNoAudit lines = AllByRecursion (λ text. text ≢ first_line) lines
+
+-- a text that may stand before an audit: lines, each with its line feed, of which none is the first line of an audit
+pub record IsHeadText (head : List ℕ) : Type 0 where
+  pub lines : List (List ℕ)
+  pub plain : AllByRecursion IsLineText lines
+  pub no_audit : HasNoAudit lines
+  pub head_is : head ≡ flat_map line lines
 
 -- these lines are a head, the first line of an audit, which is the first such line, and the lines of these logs
 pub record AreRead (lines : List (List ℕ)) (head : List ℕ) (logs : List (List Note)) : Type 0 where

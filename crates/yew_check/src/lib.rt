@@ -6,6 +6,7 @@
 
 mod entries;
 mod file;
+pub mod laws;
 mod numbers;
 mod pieces;
 mod reading;

@@ -1,11 +1,12 @@
 //! The reader of audited texts.
 
 ghost use Rattle.std.specs.Prelude.{◌≡◌, ◌≢◌, ℕ, ◌+◌, ◌≤◌, List, [], ◌∷◌, length, drop, map, IfOk, IfErr, MatchOption, MatchBool};
+ghost use Rattle.yew_text.specs.declared.text.TextKind.{TextKind};
 ghost use Rattle.yew_text.specs.Words.{end_line};
 ghost use Rattle.yew_log.specs.Entries.{entry_notes};
 ghost use Rattle.yew_log.specs.Notes.{Note};
-ghost use Rattle.yew_check.specs.Audits.{worker_line, last_line, most_workers, HasNoAudit, IsAudit};
-ghost use Rattle.yew_check.specs.Files.{EndsReading};
+ghost use Rattle.yew_check.specs.Audits.{worker_line, last_line, most_workers, HasNoAudit, IsAudit, HasOffence};
+ghost use Rattle.yew_check.specs.Files.{EndsReading, AnswersAudit, AnswersOffence};
 ghost use Rattle.yew_check.specs.Lines.{text_lines};
 ghost use Rattle.yew_check.specs.Reading.{texts, IsHead, IsLog, AreLogs, IsFaultAt};
 
@@ -170,6 +171,10 @@ fn read_lines(alloc: Global, lines: &[&[u8]], end: u64) -> Result<AuditFile, Fil
 pub fn read_audit(alloc: Global, bytes: &[u8]) -> Result<AuditFile, FileEnd>
     ensures audit { IfOk result (λ file. IsAudit bytes.now file.head file.logs) }
     ensures end { IfErr result (λ end. EndsReading bytes.now end) }
+
+    // Both are answered wherever they hold, unless memory runs out.
+    ensures each_audit { (head : List ℕ) (logs : List (List Note)) → IsAudit bytes.now head logs → AnswersAudit head logs result }
+    ensures each_offence { (kind : TextKind) (line : ℕ) → HasOffence bytes.now kind line → AnswersOffence kind line result }
 {
     let lines = match pieces(alloc, without_end(bytes), b'\n') {
         Ok(lines) => lines,
