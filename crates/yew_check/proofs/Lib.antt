@@ -7,3 +7,9 @@ mod LogRuns
 mod AuditRuns
 mod OneReading
 mod ReadBack
+mod Passing
+mod Rising
+mod TreeRises
+mod Least
+mod Coverings
+mod RootFirst

@@ -4,3 +4,6 @@ pub mod Entries
 pub mod Audits
 pub mod Reading
 pub mod Files
+pub mod Marks
+pub mod Covering
+pub mod Judging
