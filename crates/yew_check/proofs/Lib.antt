@@ -13,3 +13,5 @@ mod TreeRises
 mod Least
 mod Coverings
 mod RootFirst
+mod Sorting
+mod CausesMoved

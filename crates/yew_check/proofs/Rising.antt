@@ -2,6 +2,7 @@
 use Rattle.std.proofs.Common.{◌≡◌, ◌≢◌, ℕ, ◌<◌, ◌⊎◌, List, [], ◌∷◌, ◌++◌, drop, Bool, true, false, ◌&&◌, ◌||◌, ◌==◌, nat_lt, zero, suc, refl, sym, ap, ap₂, subst, ◌∙◌, append-nil, arith, inl, inr}
 use Rattle.std.specs.Prelude.{IsTrue}
 use Rattle.std.specs.List.{AllByRecursion}
+use Rattle.std.proofs.lemmas.Bool.{cases_lt, cases_Bool, both_ways}
 use Rattle.std.proofs.lemmas.Bool.Decides.{nat_tests}
 use Rattle.yew_laws.specs.Order.{comes_before}
 use Rattle.yew_laws.proofs.Below.{AtOrBelow}
@@ -89,3 +90,20 @@ pub Rises-drop : (i : ℕ) (xs : List (List ℕ)) → Rises xs → Rises (drop i
 Rises-drop zero xs r = r
 Rises-drop (suc i) [] r = tt
 Rises-drop (suc i) (x ∷ xs) r = Rises-drop i xs r.1
+
+-- of two paths one comes before the other
+pub before-total : (p q : List ℕ) → comes_before q p ≡ false → p ≢ q → comes_before p q ≡ true
+before-total [] [] e ne = absurd (ne refl)
+before-total [] (k ∷ q) e ne = refl
+before-total (j ∷ p) [] e ne = absurd (cc)
+before-total (j ∷ p) (k ∷ q) e ne =
+    elim (cases_lt j k) [
+      | inl less ↦ step-less j k (comes_before p q) less
+      | inr le ↦ elim (cases_lt k j) [
+        | inl more ↦ absurd (both_ways (comes_before (k ∷ q) (j ∷ p)) e (step-less k j (comes_before q p) more))
+        | inr ge ↦
+            let same : j ≡ k = omega arith in
+            let behind : comes_before q p ≡ false = elim (cases_Bool (comes_before q p)) [ inl t ↦ absurd (both_ways (comes_before (k ∷ q) (j ∷ p)) e (step-same k j (comes_before q p) (sym same) t)) | inr f ↦ f ] in
+            step-same j k (comes_before p q) same (before-total p q behind (λ f. ne (ap₂ (λ (n : ℕ) (ns : List ℕ). n ∷ ns) same f)))
+      ]
+    ]

@@ -1,7 +1,7 @@
 -- The visits and the cuts of an audit.
-use Rattle.std.specs.Prelude.{◌≡◌, ℕ, ◌≤◌, ◌⊎◌, Bool, true, false, List, [], ◌∷◌, map, Some, IsTrue, if◌then◌else◌}
+use Rattle.std.specs.Prelude.{◌≡◌, ℕ, ◌≤◌, ◌⊎◌, Bool, true, false, List, [], ◌∷◌, map, Some, IsTrue, IsFalse, if◌then◌else◌}
 use Rattle.std.specs.List.{AllByRecursion, Contains, flat_map}
-use Rattle.yew_laws.specs.Order.{comes_before}
+use Rattle.yew_laws.specs.Order.{comes_before, occurs}
 use Rattle.yew_laws.specs.SearchTree.{SearchTree, at_path, worth_at, bound_at, below}
 use Rattle.yew_log.specs.Attained.{limit}
 use Rattle.yew_log.specs.Notes.{Note, visited, cut}
@@ -46,6 +46,16 @@ worths ms = flat_map worth_in ms
 abbrev pub Rises : List (List ℕ) → Type 0
 Rises [] = Unit {0}
 Rises (path ∷ more) = AllByRecursion (λ p. IsTrue (comes_before path p)) more × Rises more
+
+-- no path comes before the one in front of it
+abbrev pub InOrder : List (List ℕ) → Type 0
+InOrder [] = Unit {0}
+InOrder (path ∷ []) = Unit {0}
+InOrder (path ∷ next ∷ more) = IsFalse (comes_before next path) × InOrder (next ∷ more)
+
+-- a path stands twice
+abbrev pub IsTwice : List (List ℕ) → Type 0
+IsTwice ps = (path : List ℕ) × (2 ≤ occurs path ps)
 
 -- this bound of a cut is permitted by this held value; a visit needs no leave
 abbrev pub PermitsCut : Bool → ℕ → ℕ → ℕ → Type 0

@@ -7,7 +7,7 @@ ghost use Rattle.yew_stack.specs.ToCome.{to_come, node_tree, AllOpen};
 ghost use Rattle.yew_check.specs.Covering.{coming, Misses, IsMore, Passes, StandFor, TellsValues, IsWhole};
 ghost use Rattle.yew_check.specs.Marks.{seen, all_seen, mark_paths, Rises};
 
-use crate::marks::Mark;
+use crate::marks::{Mark, is_path};
 use std::alloc::Global;
 use yew_laws::{Memory, Path, Problem};
 use yew_stack::{Descent, Step};
@@ -32,13 +32,6 @@ fn next_node<P: Problem>(
             Step::Empty => return Ok(None),
         }
     }
-}
-
-/// Whether two paths are the same.
-fn is_path(path: &Path, other: &Path) -> bool
-    ensures { MatchBool result (path.now.numbers ≡ other.now.numbers) (path.now.numbers ≢ other.now.numbers) }
-{
-    path.numbers() == other.numbers()
 }
 
 /// Whether a path is that of the root.
