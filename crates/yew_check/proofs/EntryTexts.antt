@@ -1,5 +1,5 @@
 -- The texts of entries, cut at their spaces.
-use Rattle.std.proofs.Common.{◌≡◌, ◌≢◌, ℕ, ◌<◌, ◌≤◌, ◌^◌, Bool, true, false, List, ◌∷◌, ◌++◌, get_or, refl, sym, ap, subst, ◌∙◌, arith}
+use Rattle.std.proofs.Common.{◌≡◌, ◌≢◌, ℕ, ◌<◌, ◌≤◌, Bool, true, false, List, ◌∷◌, ◌++◌, get_or, refl, sym, ap, subst, ◌∙◌, arith}
 use Rattle.std.specs.Prelude.{decimal}
 use Rattle.std.specs.List.{AllByRecursion}
 use Rattle.yew_log.specs.declared.entry.What.{What}
@@ -196,8 +196,7 @@ last-no_worker number e = let h : ◌≡◌ {A = ℕ} 100 119 = ap first_byte e 
 place-without : (c : ℕ) → c < 32 → (values : Bool) (path : List ℕ) (first second : ℕ) → IsPlaceWithin values path first second → AllByRecursion (λ b. b ≢ c) (place_text values path first second)
 place-without c low false path first second w = path-without c (omega arith) path w.0
 place-without c low true path first second w =
-    all-append (λ b. b ≢ c) (path_text path) (32 ∷ values_text first second) (path-without c (omega arith) path w.0)
-    (
+    all-append (λ b. b ≢ c) (path_text path) (32 ∷ values_text first second) (path-without c (omega arith) path w.0) (
       (λ e. absurd (omega arith)),
       all-append (λ b. b ≢ c) (decimal first) (32 ∷ decimal second) (decimal-without c first (omega arith) (omega (arith, w.1.0))) ((λ e. absurd (omega arith)), decimal-without c second (omega arith) (omega (arith, w.1.1))),
     )

@@ -15,3 +15,4 @@ mod Coverings
 mod RootFirst
 mod Sorting
 mod CausesMoved
+mod NotesJudged

@@ -1,5 +1,5 @@
 -- The lines of a text are a head, logs and what is left in one way only.
-use Rattle.std.proofs.Common.{◌≡◌, ◌≢◌, ℕ, zero, suc, ◌+◌, ◌<◌, ◌≤◌, ◌⊎◌, List, [], ◌∷◌, ◌++◌, map, length, refl, sym, ap, ap₂, subst, ◌∙◌, append_assoc, append-nil, arith, inl, inr, Result, Ok, Err, length-append}
+use Rattle.std.proofs.Common.{◌≡◌, ◌≢◌, ℕ, suc, ◌+◌, ◌<◌, ◌≤◌, List, [], ◌∷◌, ◌++◌, map, length, refl, sym, ap, ap₂, subst, ◌∙◌, append_assoc, append-nil, arith, inl, inr, Result, Ok, Err, length-append}
 use Rattle.std.specs.List.{AllByRecursion, flat_map}
 use Rattle.yew_lines.specs.Spelling.{line}
 use Rattle.std.specs.Prelude.{IfOk, IfErr}
@@ -8,7 +8,7 @@ use Rattle.yew_text.specs.declared.text.FileEnd.TheVariants.{Refused, TooLarge, 
 use Rattle.yew_text.specs.declared.text.TextKind.{TextKind}
 use Rattle.yew_text.specs.declared.text.TextKind.TheVariants.{NotNumber, TooBig, EndsEarly, Surplus, BadLine}
 use Rattle.yew_log.specs.Notes.{Note}
-use Rattle.yew_check.specs.Audits.{first_line, worker_line, last_line, log_lines, logs_lines, most_workers, HasNoAudit, AreWithin, AreRead, IsAudit, IsMisfit, HasEnded, HasSurplus, HasMisfit, HasOffence}
+use Rattle.yew_check.specs.Audits.{first_line, worker_line, last_line, logs_lines, most_workers, HasNoAudit, AreRead, IsAudit, HasEnded, HasSurplus, HasMisfit, HasOffence}
 use Rattle.yew_check.specs.Entries.{IsWithin, note_text}
 use Rattle.yew_check.specs.Files.{AuditValue, EndsReading, AnswersAudit, AnswersOffence}
 use Rattle.yew_check.specs.Lines.{text_lines}
@@ -90,15 +90,15 @@ front-same lines head other logs others rest left a b =
     let r = a.are_read in
     let s = b.are_read in
     let both : r.before ++ first_line ∷ (logs_lines 1 logs ++ rest) ≡ s.before ++ first_line ∷ (logs_lines 1 others ++ left) =
-        sym (a.lines_are ∙ ap (λ ts. ts ++ rest) r.lines_are ∙ regrouped r.before logs rest) ∙ b.lines_are ∙ ap (λ ts. ts ++ left) s.lines_are ∙ regrouped s.before others left in
+    sym (a.lines_are ∙ ap (λ ts. ts ++ rest) r.lines_are ∙ regrouped r.before logs rest) ∙ b.lines_are ∙ ap (λ ts. ts ++ left) s.lines_are ∙ regrouped s.before others left in
     let at = cut-unique first_line r.before (logs_lines 1 logs ++ rest) s.before (logs_lines 1 others ++ left) r.no_audit s.no_audit both in
     let fits = r.within in
     let other_fits = s.within in
     let few = fits.workers in
     let other_few = other_fits.workers in
     let behind = logs-same 0 logs others rest left (omega arith) (omega arith) fits.entries other_fits.entries
-        (let z : length logs ≡ 0 + length logs = omega arith in subst (λ k. Stops k rest) z a.stops)
-        (let z : length others ≡ 0 + length others = omega arith in subst (λ k. Stops k left) z b.stops) at.1 in
+    (let z : length logs ≡ 0 + length logs = omega arith in subst (λ k. Stops k rest) z a.stops)
+    (let z : length others ≡ 0 + length others = omega arith in subst (λ k. Stops k left) z b.stops) at.1 in
     record { heads = r.head_is ∙ ap (flat_map line) at.0 ∙ sym s.head_is; same = behind.same; rests = behind.rests }
 
 none-there : (xs ys : List (List ℕ)) → HasNoAudit (xs ++ first_line ∷ ys) → ⊥

@@ -1,5 +1,5 @@
 -- One visit or cut of a walk along a tree.
-use Rattle.std.proofs.Common.{◌≡◌, ◌≢◌, ℕ, List, [], ◌∷◌, ◌++◌, map, Bool, true, false, Option, Some, None, nat_eq, refl, sym, ap, ap₂, subst, ◌∙◌, append_assoc, append-nil}
+use Rattle.std.proofs.Common.{◌≡◌, ◌≢◌, ℕ, List, [], ◌∷◌, ◌++◌, Bool, true, false, Option, Some, nat_eq, refl, sym, ap, ap₂, subst, ◌∙◌, append-nil}
 use Rattle.std.specs.Prelude.{MatchBool, IsSome}
 use Rattle.std.specs.Option.{option_map}
 use Rattle.std.proofs.lemmas.Bool.{eqb-true, eqb-false}
@@ -7,13 +7,13 @@ use Rattle.std.proofs.lemmas.List.{map-append}
 use Rattle.std.proofs.lemmas.Option.{same_Some}
 use Rattle.yew_laws.specs.declared.problem.Problem.{Ghosts}
 use Rattle.yew_laws.specs.SearchTree.{SearchTree, search_tree, at_path, worth_at, bound_at, below, below_node, tree_paths, IsTask}
-use Rattle.yew_laws.specs.Tree.{Member, IsRanked, root_member, forest, prefixed, paths}
+use Rattle.yew_laws.specs.Tree.{Member, IsRanked, forest, prefixed, paths}
 use Rattle.yew_laws.proofs.Trees.{tree-unfolds}
 use Rattle.yew_stack.specs.Levels.{LevelValue}
 use Rattle.yew_stack.specs.ToCome.{to_come, node_tree, AllOpen}
 use Rattle.yew_stack.proofs.Coming.{push-open, push-to_come}
 use Rattle.yew_check.specs.Covering.{coming, Misses, IsMore, Passes}
-use Rattle.yew_check.specs.Marks.{Mark, covers, IsValued}
+use Rattle.yew_check.specs.Marks.{Mark}
 
 value-test : (x : Option ℕ) (w v : ℕ) → x ≡ Some w → MatchBool (nat_eq w v) (x ≡ Some v) (x ≢ Some v)
 value-test x w v is =
@@ -80,8 +80,7 @@ module _ {S N K : Type 0} (meaning : Ghosts S N K) (problem : S) (ranked : IsRan
       let is : new ≡ [] ++ level ∷ [] = pushed ∙ ap₂ (λ (ls : List (LevelValue K)) (p : List ℕ). ls ++ record { parent = p; given = 0; kids = kids } ∷ []) none here in
       let task : IsTask meaning problem [] (meaning.root problem) = record { is_sound = root; found = refl } in
       let forest_of = forest (node_tree meaning problem) 0 (meaning.children problem (meaning.root problem)) in
-      let grown : coming meaning problem ([] ++ level ∷ []) ≡ paths (prefixed [] forest_of) = ap paths (push-to_come meaning problem [] [] (meaning.root problem) kids opened ∙ append-nil (prefixed [] forest_of)) in
-      (
+      let grown : coming meaning problem ([] ++ level ∷ []) ≡ paths (prefixed [] forest_of) = ap paths (push-to_come meaning problem [] [] (meaning.root problem) kids opened ∙ append-nil (prefixed [] forest_of)) in (
         subst (AllOpen meaning problem) (sym is) (push-open meaning problem ranked [] [] (meaning.root problem) kids task opened tt),
         ap (λ ms. paths (prefixed [] ms)) (tree-unfolds ranked (meaning.root problem) root) ∙ ap (λ (ps : List (List ℕ)). [] ∷ ps) (sym (ap (coming meaning problem) is ∙ grown)),
       )

@@ -1,5 +1,5 @@
 -- What is written of logs is read back.
-use Rattle.std.proofs.Common.{◌≡◌, ◌≢◌, ℕ, zero, suc, ◌+◌, ◌-◌, ◌<◌, ◌≤◌, ◌^◌, List, [], ◌∷◌, ◌++◌, map, length, take, get_or, true, false, cond, refl, sym, ap, ap₂, subst, ◌∙◌, append_assoc, append-nil, arith, length-append}
+use Rattle.std.proofs.Common.{◌≡◌, ◌≢◌, ℕ, suc, ◌+◌, ◌-◌, ◌≤◌, List, [], ◌∷◌, ◌++◌, map, length, take, get_or, false, cond, refl, sym, ap, ap₂, ◌∙◌, append_assoc, arith, length-append}
 use Rattle.std.specs.Prelude.{codes, decimal, slice_index, ◌==◌}
 use Rattle.std.specs.List.{All, AllByRecursion, flat_map, slice_split}
 use Rattle.std.proofs.lemmas.Bool.{ne_eqb}
@@ -10,9 +10,9 @@ use Rattle.std.proofs.lemmas.List.Splits.{slice_split_at, slice_split_none}
 use Rattle.yew_laws.proofs.Members.{AllByRecursion-append, AllByRecursion-weaker}
 use Rattle.yew_lines.specs.Spelling.{line, spaced}
 use Rattle.yew_text.specs.Words.{is_newline}
-use Rattle.yew_log.specs.AuditText.{path_text, note_line, worker_text, workers_text, audit_text}
+use Rattle.yew_log.specs.AuditText.{path_text, note_line, workers_text, audit_text}
 use Rattle.yew_log.specs.Notes.{Note, taken, visited, cut, spawned, handed, ended}
-use Rattle.yew_check.specs.Audits.{first_line, worker_line, last_line, log_lines, logs_lines, most_workers, HasNoAudit, AreWithin, AreRead, IsHeadText, IsAudit}
+use Rattle.yew_check.specs.Audits.{first_line, worker_line, last_line, log_lines, logs_lines, most_workers, AreWithin, IsHeadText, IsAudit}
 use Rattle.yew_check.specs.Entries.{IsWithin, note_text}
 use Rattle.yew_check.specs.Lines.{without_end, text_lines, IsLineText}
 use Rattle.yew_check.proofs.Cutting.{all-append}
@@ -110,9 +110,9 @@ read-back head logs h w =
     let plain : AllByRecursion IsLineText read = AllByRecursion-append IsLineText h.lines (first_line ∷ logs_lines 1 logs) h.plain (first-plain, logs-plain 1 logs (omega arith) w.entries) in
     let middle : line first_line ++ workers_text 1 logs ≡ flat_map line (first_line ∷ logs_lines 1 logs) = ap (λ (ts : List ℕ). line first_line ++ ts) (workers-lines 1 logs) in
     let whole : head ++ audit_text logs ≡ flat_map line read ++ line last_line =
-        ap₂ (λ (us vs : List ℕ). us ++ (vs ++ line last_line)) h.head_is middle
-        ∙ sym (append_assoc (flat_map line h.lines) (flat_map line (first_line ∷ logs_lines 1 logs)) (line last_line))
-        ∙ ap (λ (ts : List ℕ). ts ++ line last_line) (sym (flat_map-append line h.lines (first_line ∷ logs_lines 1 logs))) in
+    ap₂ (λ (us vs : List ℕ). us ++ (vs ++ line last_line)) h.head_is middle
+    ∙ sym (append_assoc (flat_map line h.lines) (flat_map line (first_line ∷ logs_lines 1 logs)) (line last_line))
+    ∙ ap (λ (ts : List ℕ). ts ++ line last_line) (sym (flat_map-append line h.lines (first_line ∷ logs_lines 1 logs))) in
     record {
       read = read;
       are_read = record { before = h.lines; no_audit = h.no_audit; head_is = h.head_is; lines_are = refl; within = w };

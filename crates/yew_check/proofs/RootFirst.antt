@@ -1,15 +1,14 @@
 -- The first visit or cut of a whole tree is the visit of its root.
-use Rattle.std.proofs.Common.{◌≡◌, ◌≢◌, ℕ, List, [], ◌∷◌, ◌++◌, Bool, true, false, cond, ◌&&◌, Some, refl, sym, ap, subst, ◌∙◌, arith}
+use Rattle.std.proofs.Common.{◌≡◌, ◌≢◌, ℕ, List, [], ◌∷◌, ◌++◌, Bool, true, false, cond, ◌&&◌, Some, refl, sym, ap, subst, ◌∙◌}
 use Rattle.std.specs.Prelude.{IsTrue, MatchBool, IsSome}
 use Rattle.std.specs.List.{AllByRecursion, Contains, flat_map}
 use Rattle.std.proofs.lemmas.List.Elements.{All-contains, All-from_recursion}
-use Rattle.yew_laws.specs.Bag.{SameBag}
 use Rattle.yew_laws.specs.Order.{comes_before}
 use Rattle.yew_laws.specs.SearchTree.{SearchTree, at_path, worth_at, bound_at, below, tree_paths}
-use Rattle.yew_laws.proofs.Bags.{same-refl, same-trans, same-is, same-sym, same-cancel, same-append}
+use Rattle.yew_laws.proofs.Bags.{same-trans, same-is, same-cancel, same-append}
 use Rattle.yew_laws.proofs.Members.{Contains-head, AllByRecursion-weaker}
-use Rattle.yew_check.specs.Covering.{visit_in, visit_paths, AreThere, TellsValues, StandFor, IsWhole}
-use Rattle.yew_check.specs.Marks.{Mark, mark_paths, covers, IsValued, Rises}
+use Rattle.yew_check.specs.Covering.{visit_in, visit_paths, TellsValues, StandFor, IsWhole}
+use Rattle.yew_check.specs.Marks.{Mark, mark_paths, covers, Rises}
 
 visit-in-all : (P : List ℕ → Type 0) (b : Bool) (p : List ℕ) (ps : List (List ℕ)) → P p → AllByRecursion P ps → AllByRecursion P (cond b (p ∷ []) [] ++ ps)
 visit-in-all P true p ps h a = (h, a)

@@ -1,10 +1,9 @@
 -- The paths of visits and cuts that were sorted.
-use Rattle.std.proofs.Common.{◌≡◌, ◌≢◌, ℕ, zero, suc, ◌+◌, ◌-◌, ◌<◌, ◌≤◌, List, [], ◌∷◌, map, length, get_or, true, false, refl, sym, ap, subst, ◌∙◌, arith, inl, inr}
+use Rattle.std.proofs.Common.{◌≡◌, ◌≢◌, ℕ, zero, suc, ◌+◌, ◌-◌, ◌<◌, List, [], ◌∷◌, map, length, get_or, false, refl, sym, subst, arith, inl, inr}
 use Rattle.std.specs.Prelude.{IsTrue}
-use Rattle.std.specs.List.{AllByRecursion, sum_by}
 use Rattle.std.proofs.lemmas.Bool.{cases_lt}
 use Rattle.std.proofs.lemmas.List.Sums.{sum_by-cons}
-use Rattle.yew_laws.specs.Order.{comes_before, only, occurs}
+use Rattle.yew_laws.specs.Order.{comes_before, only}
 use Rattle.yew_laws.proofs.Bags.{only-itself}
 use Rattle.yew_laws.proofs.Members.{AllByRecursion-weaker}
 use Rattle.yew_check.specs.Marks.{Mark, mark_paths, InOrder, IsTwice, Rises}

@@ -1,5 +1,5 @@
 -- How the logs of an audit are judged.
-use Rattle.std.specs.Prelude.{◌≡◌, ℕ, ◌≤◌, List, Some, IsSome}
+use Rattle.std.specs.Prelude.{ℕ, ◌≤◌, List, IsSome}
 use Rattle.std.specs.List.{AllByRecursion}
 use Rattle.yew_laws.specs.Cover.{Cover}
 use Rattle.yew_laws.specs.Order.{occurs}

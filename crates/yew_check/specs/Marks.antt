@@ -2,7 +2,7 @@
 use Rattle.std.specs.Prelude.{◌≡◌, ℕ, ◌≤◌, ◌⊎◌, Bool, true, false, List, [], ◌∷◌, map, Some, IsTrue, IsFalse, if◌then◌else◌}
 use Rattle.std.specs.List.{AllByRecursion, Contains, flat_map}
 use Rattle.yew_laws.specs.Order.{comes_before, occurs}
-use Rattle.yew_laws.specs.SearchTree.{SearchTree, at_path, worth_at, bound_at, below}
+use Rattle.yew_laws.specs.SearchTree.{SearchTree, worth_at, bound_at, below}
 use Rattle.yew_log.specs.Attained.{limit}
 use Rattle.yew_log.specs.Notes.{Note, visited, cut}
 use Rattle.yew_check.specs.declared.marks.Mark as code

@@ -1,5 +1,5 @@
 -- A cause by the sorted worths is a cause by the worths.
-use Rattle.std.proofs.Common.{length, subst, sym}
+use Rattle.std.proofs.Common.{subst, sym}
 use Rattle.std.specs.List.Sorted.{IsPermutation}
 use Rattle.yew_check.specs.Marks.{seen, all_seen, worths, IsCaused}
 use Rattle.yew_check.proofs.CausesMoved.{caused-moves, caused-back, all-at, all-more}

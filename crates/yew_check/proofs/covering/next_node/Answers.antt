@@ -1,5 +1,5 @@
 -- The top level gives its next node, or ends.
-use Rattle.std.proofs.Common.{◌≡◌, length, sym, ◌∙◌, arith}
+use Rattle.std.proofs.Common.{length, sym, ◌∙◌, arith}
 use Rattle.yew_laws.specs.declared.problem.Task.{Task}
 use Rattle.yew_stack.proofs.Coming.{gives-to_come, ends-to_come, ends-open, ends-turns_left}
 use Rattle.yew_check.proofs.covering.next_node.Goals as goal

@@ -1,5 +1,5 @@
 -- The next node to come is that of the visit or the cut, or another.
-use Rattle.std.proofs.Common.{sym, ◌∙◌, ap}
+use Rattle.std.proofs.Common.{sym, ◌∙◌}
 use Rattle.yew_check.proofs.Passing.{misses, passes-cut, passes-visit}
 use Rattle.yew_check.proofs.covering.take_mark.Goals as goal
 

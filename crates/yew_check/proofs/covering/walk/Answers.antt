@@ -40,8 +40,7 @@ returns g c =
     let first = seen c.in-Some.first.now in
     let others = all_seen c.in-Some.others.now in
     let to_cover = coming meaning problem c.open_root.new.descent.levels in
-    let known = rw c.in-Some-2.is at c.in_ok-rest.ensures in
-    (
+    let known = rw c.in-Some-2.is at c.in_ok-rest.ensures in (
       subst (IsWhole t) (sym parts) (root-whole t first others to_cover c.if-not-first.false c.if-not-is_root.ensures c.in_ok-fits.ensures.tree known.0),
       subst (λ b. TellsValues t (all_seen c.args.marks.now) b) (sym c.both.ensures)
           (subst (λ ms. TellsValues t ms (c.in_ok-fits.fits && c.in-Some-2.rest)) (sym parts) (root-values t first others to_cover c.if-not-first.false c.if-not-is_root.ensures c.in_ok-fits.ensures.tree c.in_ok-fits.fits c.in-Some-2.rest c.in_ok-fits.ensures.worth known.1)),

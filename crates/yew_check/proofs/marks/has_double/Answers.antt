@@ -1,5 +1,5 @@
 -- Neighbours in the order of paths.
-use Rattle.std.proofs.Common.{◌≡◌, ◌<◌, ◌≤◌, ◌+◌, ◌-◌, [], length, get_or, ap, sym, subst, ◌∙◌, arith}
+use Rattle.std.proofs.Common.{◌≡◌, ◌<◌, ◌≤◌, ◌+◌, ◌-◌, [], length, get_or, ap, sym, ◌∙◌, arith}
 use Rattle.std.proofs.lemmas.List.{length-map}
 use Rattle.yew_check.specs.Marks.{Mark, seen, all_seen, mark_paths}
 use Rattle.yew_check.proofs.Sorting.{path-at, twice-at, rises-from, differs-more}

@@ -1,4 +1,4 @@
-use Rattle.std.proofs.Common.{◌≡◌, ◌≢◌, ◌+◌, ◌<◌, ◌≤◌, ℕ, [], get_or}
+use Rattle.std.proofs.Common.{◌≢◌, ◌+◌, ◌<◌, ℕ, [], get_or}
 use Rattle.yew_check.specs.Marks.{all_seen, mark_paths}
 use Rattle.yew_check.proofs.marks.has_double.Given as goal
 
