@@ -7,3 +7,4 @@ pub mod Files
 pub mod Marks
 pub mod Covering
 pub mod Judging
+pub mod SmallTree

@@ -16,6 +16,8 @@ mod marks;
 mod numbers;
 mod pieces;
 mod reading;
+#[cfg(test)]
+mod tests;
 
 pub use file::AuditFile;
 pub use judging::{Judged, judge};
