@@ -16,3 +16,4 @@ mod RootFirst
 mod Sorting
 mod CausesMoved
 mod NotesJudged
+mod Accepting

@@ -65,8 +65,8 @@ pub picks-root_rank : rank_of 0 ≤ 65535
 picks-root_rank = omega arith
 
 -- the first of numbers that are left, and none
-pub first-left : (k end : ℕ) → k < end → numbers_from k (end - k) ≡ k ∷ numbers_from (k + 1) (end - (k + 1))
-first-left k end below = let count : end - k ≡ suc (end - (k + 1)) = omega arith in ap (numbers_from k) count
+pub first_left : (k end : ℕ) → k < end → numbers_from k (end - k) ≡ k ∷ numbers_from (k + 1) (end - (k + 1))
+first_left k end below = let count : end - k ≡ suc (end - (k + 1)) = omega arith in ap (numbers_from k) count
 
-pub none-left : (k end : ℕ) → end ≤ k → numbers_from k (end - k) ≡ []
-none-left k end past = let count : end - k ≡ 0 = omega arith in ap (numbers_from k) count
+pub none_left : (k end : ℕ) → end ≤ k → numbers_from k (end - k) ≡ []
+none_left k end past = let count : end - k ≡ 0 = omega arith in ap (numbers_from k) count
