@@ -1,8 +1,8 @@
 -- Logs that cover a tree and whose numbers are right are accepted, and each list of logs is judged in one way.
-use Rattle.std.proofs.Common.{◌≡◌, ◌≢◌, ℕ, ◌+◌, ◌<◌, ◌≤◌, List, [], ◌∷◌, ◌++◌, Bool, true, false, Option, Some, None, cond, refl, sym, ap, subst, ◌∙◌, arith}
+use Rattle.std.proofs.Common.{◌≡◌, ℕ, ◌+◌, ◌<◌, ◌≤◌, List, [], ◌∷◌, Bool, true, false, Option, Some, None, cond, refl, sym, ap, subst, ◌∙◌, arith}
 use Rattle.std.specs.Prelude.{IsSome}
 use Rattle.std.specs.Option.{option_map}
-use Rattle.std.specs.List.{AllByRecursion, flat_map, sum_by}
+use Rattle.std.specs.List.{AllByRecursion, flat_map}
 use Rattle.std.proofs.lemmas.List.Sums.{sum_by-cons, sum_by-append}
 use Rattle.yew_laws.specs.Cover.{Cover}
 use Rattle.yew_laws.specs.Order.{is_path, only, occurs}
@@ -14,7 +14,7 @@ use Rattle.yew_log.specs.Attained.{Attained}
 use Rattle.yew_log.specs.Notes.{Note, taken, visited, cut, spawned, handed, ended, Judgement, paths, judgements, visits, cuts, visited_paths, cut_paths}
 use Rattle.yew_check.specs.declared.judging.Judged.{Judged}
 use Rattle.yew_check.specs.declared.judging.Judged.TheVariants.{Covers, Double, Cover as NoCover, Number}
-use Rattle.yew_check.specs.Judging.{HasDouble, IsCovered, Judges}
+use Rattle.yew_check.specs.Judging.{Judges}
 use Rattle.yew_check.specs.Marks.{Mark}
 use Rattle.yew_check.proofs.Least.{covers-own}
 
@@ -74,11 +74,11 @@ module _ {N : Type 0} (t : SearchTree N) where
     pub accepts : (gap : ℕ) (notes : List Note) → Cover t (visited_paths notes) (cut_paths notes) → Attained t gap (visits notes) (cuts notes) → Judges t gap notes Covers
     accepts gap notes cover attained = (
       (λ double.
-        let once = cover-once t ranked root (visited_paths notes) (cut_paths notes) cover double.0 in
-        let parts = judged-parts double.0 notes in
-        let below_cuts = cuts-below double.0 (cut_paths notes) (there-cuts (cuts notes) attained.bounds) in
-        let h = double.1 in
-        absurd (omega arith)),
+          let once = cover-once t ranked root (visited_paths notes) (cut_paths notes) cover double.0 in
+          let parts = judged-parts double.0 notes in
+          let below_cuts = cuts-below double.0 (cut_paths notes) (there-cuts (cuts notes) attained.bounds) in
+          let h = double.1 in
+          absurd (omega arith)),
       record { in_tree = there-judged notes attained.worths attained.bounds; cover = cover },
       attained,
     )

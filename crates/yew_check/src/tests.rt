@@ -1,3 +1,4 @@
+ghost use Rattle.std.specs.Prelude.{◌-◌};
 ghost use Rattle.yew_check.specs.SmallTree.{numbers_from, first_of, end_of, children_of, rank_of, worth_of, bound_of, IsBelowEight, picks-ranked, picks-bounded, picks-countable, picks-root_rank};
 
 use crate::laws::audits_are_read_back;
