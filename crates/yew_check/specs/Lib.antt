@@ -1,0 +1,10 @@
+pub mod Numbers
+pub mod Lines
+pub mod Entries
+pub mod Audits
+pub mod Reading
+pub mod Files
+pub mod Marks
+pub mod Covering
+pub mod Judging
+pub mod SmallTree
