@@ -1,0 +1,4 @@
+pub mod Calls
+pub mod ShapeLaws
+pub mod Shapes
+pub mod StepsToThree
