@@ -5,10 +5,13 @@
 #![tactic(auto)]
 
 mod by_calls;
+mod keyed;
 pub mod laws;
+mod reordered;
 mod shape;
 #[cfg(test)]
 mod tests;
 
 pub use by_calls::ByCalls;
+pub use reordered::{KeyShape, Reordered};
 pub use shape::Shape;
