@@ -2,6 +2,8 @@ pub mod Calls
 pub mod KeyOrder
 pub mod Keyed
 pub mod ReorderLaws
+pub mod Reordering
+pub mod SameTrees
 pub mod ShapeLaws
 pub mod Shapes
 pub mod StepsToThree
