@@ -1,4 +1,5 @@
 pub mod Calls
+pub mod Falling
 pub mod KeyOrder
 pub mod Keyed
 pub mod ReorderLaws
