@@ -8,6 +8,8 @@ mod board;
 mod counting;
 pub mod laws;
 mod placement;
+#[cfg(test)]
+mod tests;
 
 pub use board::{Board, Size, is_whole, no_queen, one_queen_more};
 pub use counting::ways;
