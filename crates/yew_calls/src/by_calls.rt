@@ -63,7 +63,11 @@ where
 
     ghost rank = { λ _. S.rank };
 
-    ghost sound = { λ calls node. S.sound node × (AnswersRoot (Z.pre calls.root) (Z.post calls.root) S.root × AnswersChildren (C.pre calls.children) (C.post calls.children) S.sound S.children × AnswersNumber (W.pre calls.worth) (W.post calls.worth) S.sound S.worth × AnswersNumber (B.pre calls.bound) (B.post calls.bound) S.sound S.bound) };
+    ghost sound = { λ calls node. S.sound node × (
+        AnswersRoot (Z.pre calls.root) (Z.post calls.root) S.root
+        × AnswersChildren (C.pre calls.children) (C.post calls.children) S.sound S.children
+        × AnswersNumber (W.pre calls.worth) (W.post calls.worth) S.sound S.worth
+        × AnswersNumber (B.pre calls.bound) (B.post calls.bound) S.sound S.bound) };
 
     ghost remaining = { λ _. into_iter_items };
 

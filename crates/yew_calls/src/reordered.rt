@@ -58,7 +58,8 @@ impl<'a, P: Problem, M: KeyShape<P>, K: Fn(&P::Node) -> u64 + Sync> Problem
 
     ghost rank = { λ reordered. P.rank reordered.inner.now };
 
-    ghost sound = { λ reordered node. P.sound reordered.inner.now node × AnswersNumber (K.pre reordered.key) (K.post reordered.key) (P.sound reordered.inner.now) (M.key reordered.inner.now) };
+    ghost sound = { λ reordered node. P.sound reordered.inner.now node
+        × AnswersNumber (K.pre reordered.key) (K.post reordered.key) (P.sound reordered.inner.now) (M.key reordered.inner.now) };
 
     ghost remaining = { λ _ kids. nodes_of (into_iter_items kids) };
 
@@ -70,9 +71,11 @@ impl<'a, P: Problem, M: KeyShape<P>, K: Fn(&P::Node) -> u64 + Sync> Problem
 
     ghost root_rank = { λ reordered both. P.root_rank reordered.inner.now both.0 };
 
-    ghost bounded = { λ reordered. both-bounded (reordered-bounded (M.key reordered.inner.now) (P.children reordered.inner.now) (P.bounded reordered.inner.now)) };
+    ghost bounded = { λ reordered.
+        both-bounded (reordered-bounded (M.key reordered.inner.now) (P.children reordered.inner.now) (P.bounded reordered.inner.now)) };
 
-    ghost countable = { λ reordered node both. reordered-countable (M.key reordered.inner.now) (P.children reordered.inner.now) (P.countable reordered.inner.now) node both.0 };
+    ghost countable = { λ reordered node both.
+        reordered-countable (M.key reordered.inner.now) (P.children reordered.inner.now) (P.countable reordered.inner.now) node both.0 };
 
     fn root(&self, alloc: Global) -> Result<P::Node, Memory> {
         self.inner.root(alloc)

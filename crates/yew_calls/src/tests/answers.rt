@@ -4,7 +4,11 @@ ghost use Rattle.yew_calls.specs.StepsToThree.{next_number, numbers_left, IsUpTo
 
 use crate::{ByCalls, Shape, laws};
 use std::alloc::Global;
+use std::sync::Wait;
 use std::test::Fail;
+use std::thread::Threads;
+use yew_crew::{Coord, search_crew};
+use yew_io::OpenGate;
 use yew_kinds::{Answer, ByDepth, Kind};
 use yew_laws::{Memory, Problem};
 use yew_log::Counts;
@@ -82,6 +86,32 @@ fn counts_by_stored_functions(rt: HostRuntime) -> Result<(), Fail> {
         _ => assert!(rt; false),
     }
     laws::calls_tree(&calls);
+    Ok(())
+}
+
+/// The same by two workers.
+fn is_counted_by_two<R: Threads + Wait + Sync>(rt: &R, alloc: Global) -> Result<bool, SearchFault> {
+    let calls: ByCalls<StepsToThree, _, _, _, _> = ByCalls::new(first, following, no_worth, one);
+    let tally = ByDepth { depths: 3 };
+    let Found { answer, logs: _ } = search_crew::<_, _, Counts, _, _>(
+        rt,
+        alloc,
+        &calls,
+        Kind::Count,
+        &tally,
+        Coord::Depth(1),
+        2,
+        &OpenGate,
+    )?;
+    match answer {
+        Answer::Count(sum) => Ok(sum.counts() == [1, 1, 1, 1].as_slice()),
+        Answer::Best { .. } | Answer::Reach(_) => Ok(false),
+    }
+}
+
+#[test]
+fn counts_with_two_workers(rt: HostRuntime) -> Result<(), Fail> {
+    assert!(rt; is_counted_by_two(&rt, rt.alloc())?);
     Ok(())
 }
 
