@@ -1,0 +1,10 @@
+pub mod Calls
+pub mod Falling
+pub mod KeyOrder
+pub mod Keyed
+pub mod ReorderLaws
+pub mod Reordering
+pub mod SameTrees
+pub mod ShapeLaws
+pub mod Shapes
+pub mod StepsToThree
