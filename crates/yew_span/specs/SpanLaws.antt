@@ -2,21 +2,21 @@
 use Rattle.std.specs.Prelude.{◌≡◌, ◌≢◌, ℕ, ◌+◌, ◌<◌, ◌≤◌, Bool, true, false, not, ◌&&◌, ◌||◌, ◌==◌, List, [], ◌∷◌, ◌++◌, length, map, filter, sum_by, refl}
 use Rattle.std.specs.List.{AllByRecursion}
 use Rattle.std.proofs.Common.{zero, suc, cond, ap, sym, subst, ◌∙◌, arith, inl, inr, ◌⊎◌}
-use Rattle.std.proofs.lemmas.Bool.{cases_eq, true≢false}
+use Rattle.std.proofs.lemmas.Bool.{and_parts, cases_eq, true≢false}
 use Rattle.std.proofs.lemmas.Bool.Decides.{nat_tests}
 use Rattle.std.proofs.lemmas.List.{length-map}
 use Rattle.std.proofs.lemmas.List.Filters.{sum_by-filter_both}
 use Rattle.std.proofs.lemmas.List.Sums.{sum_by-cons, sum_by-append}
-use Rattle.yew_laws.specs.Sets.{contains}
+use Rattle.yew_laws.specs.Sets.{contains, are_different}
 use Rattle.yew_laws.proofs.Members.{AllByRecursion-append, AllByRecursion-both, AllByRecursion-map, AllByRecursion-weaker}
 use Rattle.yew_span.specs.declared.growing.Outside.{Outside}
 use Rattle.yew_span.specs.Chains.{joined-agree, joined-self, joined-through, joined-turned, joined-more, joined-first}
 use Rattle.yew_span.specs.Exchange.{Agrees, label_of, labels-agree, labels-finest, Exchange, exchange}
 use Rattle.yew_span.specs.Growth.{nearest, left_over, grown, beside, span}
-use Rattle.yew_span.specs.Span.{pair_weight, total_weight, IsJoined, IsWithin, IsConnecting, IsSpan}
+use Rattle.yew_span.specs.Span.{IsSymmetric, pair_weight, total_weight, IsJoined, IsWithin, IsConnecting, IsSpan}
 use Rattle.yew_span.specs.Stages.{outside, nearest-has, nearest-least, IsThere, outside-there, outside-head, outside-tail, outside-all, left-contains, left-fewer, IsNear, IsStage, one-of, stage-more}
 use Rattle.yew_tsp.specs.Instance.{Instance, weight_between}
-use Rattle.yew_tsp.specs.Lists.{filter-all, filter-passes}
+use Rattle.yew_tsp.specs.Lists.{filter-all, filter-passes, member-all}
 
 -- ---- lists of pairs
 
@@ -305,3 +305,24 @@ module _ (instance : Instance) (start : ℕ) (rest : List ℕ) where
                   | inr never ↦ absurd (true≢false (sym never))
                 ]
           ]
+
+-- for different cities of a symmetric instance
+pub span-whole : (instance : Instance) → IsSymmetric instance → (cities : List ℕ) → 1 ≤ length cities → are_different cities ≡ true → AllByRecursion (λ k. (1 ≤ k) × (k ≤ instance.cities)) cities
+    → IsSpan instance cities (span instance cities)
+span-whole instance symmetric [] some different within = absurd (omega (arith, some))
+span-whole instance symmetric (start ∷ rest) some different within =
+    span-is instance start rest
+    (λ a b h k.
+    let one = member-all (λ c. (1 ≤ c) × (c ≤ instance.cities)) (start ∷ rest) a within h in
+    let two = member-all (λ c. (1 ≤ c) × (c ≤ instance.cities)) (start ∷ rest) b within k in
+    symmetric a b one.0 one.1 two.0 two.1)
+    (flips (contains rest start) (and_parts (not (contains rest start)) (are_different rest) different).0)
+
+-- there is one least weight
+pub span-one : (instance : Instance) (cities : List ℕ) (a b : ℕ) → IsSpan instance cities a → IsSpan instance cities b → a ≡ b
+span-one instance cities a b one two =
+    let less = one.others two.one two.connects in
+    let more = two.others one.one one.connects in
+    let its = one.attains in
+    let other = two.attains in
+    omega (arith, less, more, its, other)

@@ -8,4 +8,6 @@
 
 mod growing;
 
+pub use growing::least_span;
+
 
