@@ -7,7 +7,9 @@
 #![tactic(auto)]
 
 mod growing;
+mod spanned;
 
 pub use growing::least_span;
+pub use spanned::Spanned;
 
 
