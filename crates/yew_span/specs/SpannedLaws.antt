@@ -156,6 +156,9 @@ module _ (instance : Instance) (node : TourNode) where
   pub join-some : 1 ≤ length (still_to_join instance node)
   join-some = let both = length-append (ends node.last) (unvisited_of instance node) in let some = ends-some node.last in omega (arith, both, some)
 
+  pub join-length : length (still_to_join instance node) ≤ length (unvisited_of instance node) + 2
+  join-length = let both = length-append (ends node.last) (unvisited_of instance node) in let few = ends-few node.last in omega (arith, both, few)
+
   module _ (sound : IsNode instance node) where
     one-listed : contains (cities_of node) 1 ≡ true
     one-listed = begins (cities_of node) sound.begins
@@ -182,10 +185,6 @@ module _ (instance : Instance) (node : TourNode) where
               | true ↦ (one, tt)
               | false ↦ (last-within instance node sound, (one, tt))
             ]
-
-    pub join-few : length (still_to_join instance node) ≤ instance.cities + 1
-    join-few =
-        let both = length-append (ends node.last) (unvisited_of instance node) in let few = ends-few node.last in let count = sound.count in omega (arith, both, few, count)
 
     module _ (symmetric : IsSymmetric instance) where
       -- the span is the least weight that joins what is still to be joined

@@ -77,7 +77,8 @@ fn put_rest(cities: u32, listed: &[u32], rest: &mut [u32]) -> usize
     requires some { 1 ≤ length listed.now }
     requires few { cities ≤ 60 }
     requires room { length rest.old ≡ 64 }
-    ensures { take result rest.new ≡ ends (last_of listed.now) ++ left_out cities listed.now }
+    ensures rest { take result rest.new ≡ ends (last_of listed.now) ++ left_out cities listed.now }
+    ensures few { result ≤ 62 }
 {
     let last = listed[listed.len() - 1];
     rest[0] = last;
