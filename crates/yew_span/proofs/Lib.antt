@@ -1,2 +1,3 @@
+mod Lower
 mod Placing
 mod Taking

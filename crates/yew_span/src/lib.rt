@@ -7,6 +7,7 @@
 #![tactic(auto)]
 
 mod growing;
+pub mod laws;
 mod spanned;
 
 pub use growing::least_span;
