@@ -14,7 +14,7 @@ mod Least
 mod Lowest
 mod MatrixWords
 mod NumberSteps
-mod Paths
+pub mod Paths
 mod Places
 mod Rights
 mod Surpluses

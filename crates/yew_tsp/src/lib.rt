@@ -19,6 +19,6 @@ mod tests;
 mod texts;
 mod tours;
 
-pub use nodes::{TourKids, TourNode};
+pub use nodes::{TourKids, TourList, TourNode};
 pub use reading::read;
 pub use tours::Tours;

@@ -1,6 +1,6 @@
 //! The nodes of the tree of lists of cities.
 
-ghost use Rattle.std.specs.Prelude.{◌≡◌, ◌<◌, ◌≤◌, slice_index};
+ghost use Rattle.std.specs.Prelude.{◌≡◌, ◌<◌, ◌≤◌, length, slice_index, take};
 
 /// A list of different cities that begins with city 1, and what is known of the tours that begin with it.
 #[derive(Clone, Copy, Debug, PartialEq, Eq)]
@@ -18,8 +18,45 @@ pub struct TourNode {
     pub(crate) lower: u64,
 }
 
+/// The cities of a node's list, taken out of the node.
+#[derive(Clone, Copy, Debug)]
+pub struct TourList {
+    pub(crate) cities: [u32; 64],
+    pub(crate) count: usize,
+    ghost few: { count ≤ 64 },
+}
+
+impl TourList {
+    /// The cities in order, numbered from 1.
+    #[inline(always)]
+    pub fn as_slice(&self) -> &[u32]
+        ensures { result.now ≡ take self.now.count self.now.cities }
+    {
+        &self.cities[..self.count]
+    }
+}
+
 impl TourNode {
-    ghost use Rattle.yew_tsp.specs.Nodes.{start_at, written};
+    ghost use Rattle.yew_tsp.specs.Nodes.{start_at, written, cities_of};
+
+    /// The list of the node: its cities in order, numbered from 1. It takes no memory.
+    #[inline(always)]
+    pub fn list(&self) -> TourList
+        requires steps { self.now.steps < 64 }
+        requires size { length self.now.cities ≡ 64 }
+        ensures { take result.count result.cities ≡ cities_of self.now }
+    {
+        let mut cities = [0; 64];
+        let count = self.steps as usize;
+        for place in 0..count {
+            cities[place] = self.cities[place] as u32;
+        }
+        cities[count] = self.last as u32;
+        TourList {
+            cities,
+            count: count + 1,
+        }
+    }
 
     /// City 1 alone, where the least weights from all cities have this sum.
     pub(crate) fn root(cities: usize, lower: u64) -> TourNode

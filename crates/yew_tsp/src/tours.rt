@@ -125,6 +125,32 @@ impl Tours {
         })
     }
 
+    /// The number of cities, which are numbered from 1.
+    #[inline(always)]
+    pub fn cities(&self) -> u32
+        requires { IsWithinLimits self.now }
+        ensures { result ≡ self.now.cities }
+    {
+        self.cities as u32
+    }
+
+    /// The weight from one city to another: the length of that step. Both are numbers of cities, from 1 on.
+    #[inline(always)]
+    pub fn weight(&self, from: u32, to: u32) -> u64
+        requires limits { IsWithinLimits self.now }
+        requires from { (1 ≤ from) × (from ≤ self.now.cities) }
+        requires to { (1 ≤ to) × (to ≤ self.now.cities) }
+        ensures { result ≡ weight_between self.now from to }
+    {
+        let weight = weight_at(
+            self.cities,
+            self.weights.as_slice(),
+            from as usize,
+            to as usize,
+        );
+        weight as u64
+    }
+
     /// The weights from each city to each, row by row.
     #[inline(always)]
     pub(crate) fn weights(&self) -> &[u32]

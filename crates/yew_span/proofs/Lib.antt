@@ -1,0 +1,3 @@
+mod Lower
+mod Placing
+mod Taking

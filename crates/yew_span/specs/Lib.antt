@@ -1,0 +1,10 @@
+pub mod Bounds
+pub mod Chains
+pub mod Exchange
+pub mod Growth
+pub mod Outsides
+pub mod Places
+pub mod Span
+pub mod SpanLaws
+pub mod SpannedLaws
+pub mod Stages
