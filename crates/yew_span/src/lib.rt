@@ -12,5 +12,3 @@ mod spanned;
 
 pub use growing::least_span;
 pub use spanned::Spanned;
-
-
