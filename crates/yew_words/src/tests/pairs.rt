@@ -4,7 +4,7 @@
 use super::*;
 
 /// The first words with the files, the options that are for them, and those that may not be absent.
-const HEADS: [(&str, &str, &str); 23] = [
+const HEADS: [(&str, &str, &str); 28] = [
     (
         "knapsack sequential k1",
         "--target --gap --report --audit",
@@ -93,6 +93,23 @@ const HEADS: [(&str, &str, &str); 23] = [
         "--workers --depth --genus --report --audit",
         "--genus",
     ),
+    ("flow sequential f1", "--gap --report --audit", ""),
+    (
+        "flow depth f1",
+        "--workers --depth --gap --report --audit",
+        "",
+    ),
+    (
+        "flow budget f1",
+        "--workers --budget --gap --report --audit",
+        "",
+    ),
+    (
+        "flow steal f1",
+        "--workers --chunk --gap --report --audit",
+        "",
+    ),
+    ("flow ordered f1", "--workers --depth --report --audit", ""),
     ("make knapsack", "--seed --size --solve", "--seed --size"),
     ("make tsp", "--seed --size --solve", "--seed --size"),
     ("make lad", "--seed --size", "--seed --size"),
