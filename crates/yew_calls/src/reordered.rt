@@ -24,7 +24,8 @@ pub trait KeyShape<P: Problem>: Sync {
 /// Root, worth, bound and rank are the inner ones.
 #[derive(Drop)]
 pub struct Reordered<'a, P: Problem, M: KeyShape<P>, K> {
-    inner: &'a P,
+    /// The problem whose children are put in order.
+    pub inner: &'a P,
     key: K,
     shape: PhantomData<M>,
 }
