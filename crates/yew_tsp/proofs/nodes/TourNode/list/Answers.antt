@@ -9,10 +9,13 @@ loop-place-preserved c =
     let cities = c.loop-place.cities in
     let there : place < length cities = let long = c.loop-place.invariant.long in let fits = c.requires.steps in omega (arith, long, fits) in
     let also : place < length node.cities = let size = c.requires.size in let fits = c.requires.steps in omega (arith, size, fits) in
-    record { long = length-set cities place (get_or node.cities place 0) ∙ c.loop-place.invariant.long; front =
-    take_more_set cities place (get_or node.cities place 0) there
-    ∙ ap (λ cs. cs ++ get_or node.cities place 0 ∷ []) c.loop-place.invariant.front
-    ∙ sym (take_more node.cities place 0 also); }
+    record {
+      long = length-set cities place (get_or node.cities place 0) ∙ c.loop-place.invariant.long;
+      front =
+          take_more_set cities place (get_or node.cities place 0) there
+          ∙ ap (λ cs. cs ++ get_or node.cities place 0 ∷ []) c.loop-place.invariant.front
+          ∙ sym (take_more node.cities place 0 also);
+    }
 
 pub returns : goal.returns
 returns c =
