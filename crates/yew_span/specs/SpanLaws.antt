@@ -1,7 +1,7 @@
 -- Taking in the nearest city each time joins all cities by the least weight (Prim's algorithm is right).
-use Rattle.std.specs.Prelude.{◌≡◌, ◌≢◌, ℕ, ◌+◌, ◌<◌, ◌≤◌, Bool, true, false, not, ◌&&◌, ◌||◌, ◌==◌, List, [], ◌∷◌, ◌++◌, length, map, filter, sum_by, refl}
+use Rattle.std.specs.Prelude.{◌≡◌, ◌≢◌, ℕ, ◌+◌, ◌≤◌, Bool, true, false, not, ◌&&◌, ◌==◌, List, [], ◌∷◌, ◌++◌, length, map, filter, refl}
 use Rattle.std.specs.List.{AllByRecursion}
-use Rattle.std.proofs.Common.{zero, suc, cond, ap, sym, subst, ◌∙◌, arith, inl, inr, ◌⊎◌}
+use Rattle.std.proofs.Common.{zero, suc, cond, ap, sym, subst, ◌∙◌, arith, inl, inr}
 use Rattle.std.proofs.lemmas.Bool.{and_parts, cases_eq, true≢false}
 use Rattle.std.proofs.lemmas.Bool.Decides.{nat_tests}
 use Rattle.std.proofs.lemmas.List.{length-map}
@@ -13,8 +13,8 @@ use Rattle.yew_span.specs.declared.growing.Outside.{Outside}
 use Rattle.yew_span.specs.Chains.{joined-agree, joined-self, joined-through, joined-turned, joined-more, joined-first}
 use Rattle.yew_span.specs.Exchange.{Agrees, label_of, labels-agree, labels-finest, Exchange, exchange}
 use Rattle.yew_span.specs.Growth.{nearest, left_over, grown, beside, span}
-use Rattle.yew_span.specs.Span.{IsSymmetric, pair_weight, total_weight, IsJoined, IsWithin, IsConnecting, IsSpan}
-use Rattle.yew_span.specs.Stages.{outside, nearest-has, nearest-least, IsThere, outside-there, outside-head, outside-tail, outside-all, left-contains, left-fewer, IsNear, IsStage, one-of, stage-more}
+use Rattle.yew_span.specs.Span.{IsSymmetric, pair_weight, total_weight, IsJoined, IsWithin, IsSpan}
+use Rattle.yew_span.specs.Stages.{outside, nearest-has, nearest-least, outside-there, outside-head, outside-tail, outside-all, left-contains, left-fewer, IsNear, IsStage, one-of, stage-more}
 use Rattle.yew_tsp.specs.Instance.{Instance, weight_between}
 use Rattle.yew_tsp.specs.Lists.{filter-all, filter-passes, member-all}
 
@@ -150,10 +150,11 @@ module _ (instance : Instance) (cities : List ℕ) (symmetric : (a b : ℕ) → 
       let less = pair-crossing joined first others stage found.out found.out_is.0 found.out_is.1 in
       let more : grown instance count (left_over instance (nearest first others) (first ∷ others)) ≤ total_weight instance (found.rest ++ others_kept) =
       grown-least count ((nearest first others).city ∷ joined) (left_over instance (nearest first others) (first ∷ others)) ((from, (nearest first others).city) ∷ chosen) (found.rest ++ others_kept)
-      (stage-more instance cities joined first others stage)
-      ((outside-tail (nearest first others).city from (contains joined from) near.from_joined, outside-head (nearest first others).city (nearest first others).city (contains joined (nearest first others).city) refl),
-      AllByRecursion-weaker (IsWithin joined) (IsWithin ((nearest first others).city ∷ joined))
-      (λ q w. (outside-tail (nearest first others).city q.0 (contains joined q.0) w.0, outside-tail (nearest first others).city q.1 (contains joined q.1) w.1)) chosen inside)
+      (stage-more instance cities joined first others stage) (
+        (outside-tail (nearest first others).city from (contains joined from) near.from_joined, outside-head (nearest first others).city (nearest first others).city (contains joined (nearest first others).city) refl),
+        AllByRecursion-weaker (IsWithin joined) (IsWithin ((nearest first others).city ∷ joined))
+            (λ q w. (outside-tail (nearest first others).city q.0 (contains joined q.0) w.0, outside-tail (nearest first others).city q.1 (contains joined q.1) w.1)) chosen inside,
+      )
       (AllByRecursion-append (IsWithin cities) found.rest others_kept
       (AllByRecursion-weaker (λ q. IsWithin cities q × (crosses joined q ≡ true)) (IsWithin cities) (λ q w. w.0) found.rest found.rest_are)
       (filter-all (IsWithin cities) (λ pair. not (crosses joined pair)) pairs within))
@@ -223,10 +224,12 @@ module _ (instance : Instance) (cities : List ℕ) where
           onward : (c : ℕ) → (t : ℕ) × (contains ((nearest f os).city ∷ j) t ≡ true) × IsJoined more.pairs c t → (t : ℕ) × (contains j t ≡ true) × IsJoined ((near.from, (nearest f os).city) ∷ more.pairs) c t
           onward c r =
               elim (one-of (nearest f os).city r.0 (contains j r.0) r.1) [
-                | inl same ↦
-                    (near.from, near.from_joined,
-                    joined-through ((near.from, (nearest f os).city) ∷ more.pairs) c (nearest f os).city near.from
-                    (subst (λ x. IsJoined ((near.from, (nearest f os).city) ∷ more.pairs) c x) (sym same) (joined-more (near.from, (nearest f os).city) more.pairs c r.0 r.2)) home)
+                | inl same ↦ (
+                  near.from,
+                  near.from_joined,
+                  joined-through ((near.from, (nearest f os).city) ∷ more.pairs) c (nearest f os).city near.from
+                      (subst (λ x. IsJoined ((near.from, (nearest f os).city) ∷ more.pairs) c x) (sym same) (joined-more (near.from, (nearest f os).city) more.pairs c r.0 r.2)) home,
+                )
                 | inr there ↦ (r.0, there, joined-more (near.from, (nearest f os).city) more.pairs c r.0 r.2)
               ]
 

@@ -1,5 +1,5 @@
 -- What is known while a set of joined cities takes in the nearest of the others.
-use Rattle.std.specs.Prelude.{◌≡◌, ◌≢◌, ℕ, ◌+◌, ◌<◌, ◌≤◌, Bool, true, false, not, ◌&&◌, ◌||◌, ◌==◌, List, [], ◌∷◌, length, map, filter, min, nat_lt, if◌then◌else◌, refl}
+use Rattle.std.specs.Prelude.{◌≡◌, ◌≢◌, ℕ, ◌<◌, ◌≤◌, Bool, true, false, not, ◌&&◌, ◌||◌, ◌==◌, List, [], ◌∷◌, length, map, filter, min, nat_lt, if◌then◌else◌, refl}
 use Rattle.std.specs.List.{AllByRecursion}
 use Rattle.std.proofs.Common.{suc, cond, ap, sym, subst, ◌∙◌, arith, inl, inr, ◌⊎◌}
 use Rattle.std.proofs.lemmas.Bool.{cases_eq, cases_lt, true≢false}
@@ -161,17 +161,17 @@ module _ (instance : Instance) (cities joined : List ℕ) where
   near-updated taken other near =
       elim (cases_lt (weight_between instance taken.city other.city) other.near) [
         | inl less ↦ record {
-            least = bound;
-            from = taken.city;
-            from_joined = outside-head taken.city taken.city (contains joined taken.city) refl;
-            is = omega (arith, less);
-          }
+          least = bound;
+          from = taken.city;
+          from_joined = outside-head taken.city taken.city (contains joined taken.city) refl;
+          is = omega (arith, less);
+        }
         | inr most ↦ record {
-            least = bound;
-            from = near.from;
-            from_joined = outside-tail taken.city near.from (contains joined near.from) near.from_joined;
-            is = let own = near.is in omega (arith, most, own);
-          }
+          least = bound;
+          from = near.from;
+          from_joined = outside-tail taken.city near.from (contains joined near.from) near.from_joined;
+          is = let own = near.is in omega (arith, most, own);
+        }
       ]
     where
       bound : (c : ℕ) → contains (taken.city ∷ joined) c ≡ true → min other.near (weight_between instance taken.city other.city) ≤ weight_between instance c other.city

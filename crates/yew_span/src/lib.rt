@@ -14,5 +14,3 @@ mod tests;
 
 pub use growing::least_span;
 pub use spanned::Spanned;
-
-

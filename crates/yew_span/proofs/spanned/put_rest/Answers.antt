@@ -1,4 +1,4 @@
-use Rattle.std.proofs.Common.{◌≡◌, ◌+◌, ◌<◌, [], ◌∷◌, ◌++◌, length, take, sym, ap, ap₂, ◌∙◌, arith}
+use Rattle.std.proofs.Common.{[], ◌∷◌, ◌++◌, length, take, sym, ap, ap₂, ◌∙◌, arith}
 use Rattle.std.proofs.lemmas.List.{length-set, take_more_set}
 use Rattle.yew_span.specs.Bounds.{ends}
 use Rattle.yew_span.specs.Places.{last_of}
@@ -17,17 +17,17 @@ loop-city-preserved c =
     let most = c.requires.few in
     elim c.if-not-is_among.branch [
       | then-not-is_among w ↦ record {
-          long = ap length w.rest-is ∙ length-set rest count city ∙ long;
-          few = let is = w.count-is in omega (arith, is, few);
-          front =
-              ap₂ take w.count-is w.rest-is ∙ take_more_set rest count city (omega (arith, long, few, most)) ∙ ap (λ xs. xs ++ city ∷ []) c.loop-city.invariant.front
-              ∙ left_out-more listed (ends (last_of listed)) city (omega arith) (sym c.is_among.ensures ∙ w.if-not-is_among.true);
-        }
+        long = ap length w.rest-is ∙ length-set rest count city ∙ long;
+        few = let is = w.count-is in omega (arith, is, few);
+        front =
+            ap₂ take w.count-is w.rest-is ∙ take_more_set rest count city (omega (arith, long, few, most)) ∙ ap (λ xs. xs ++ city ∷ []) c.loop-city.invariant.front
+            ∙ left_out-more listed (ends (last_of listed)) city (omega arith) (sym c.is_among.ensures ∙ w.if-not-is_among.true);
+      }
       | else-not-is_among w ↦ record {
-          long = ap length w.rest-is ∙ long;
-          few = let is = w.count-is in omega (arith, is, few);
-          front =
-              ap₂ take w.count-is w.rest-is ∙ c.loop-city.invariant.front
-              ∙ ap (λ xs. ends (last_of listed) ++ xs) (left_out-same listed city (omega arith) (sym c.is_among.ensures ∙ w.if-not-is_among.false));
-        }
+        long = ap length w.rest-is ∙ long;
+        few = let is = w.count-is in omega (arith, is, few);
+        front =
+            ap₂ take w.count-is w.rest-is ∙ c.loop-city.invariant.front
+            ∙ ap (λ xs. ends (last_of listed) ++ xs) (left_out-same listed city (omega arith) (sym c.is_among.ensures ∙ w.if-not-is_among.false));
+      }
     ]
