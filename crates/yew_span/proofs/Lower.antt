@@ -1,5 +1,5 @@
 -- What the bound with the span says of the tours that begin with a list.
-use Rattle.std.proofs.Common.{◌≡◌, ℕ, ◌+◌, ◌-◌, ◌≤◌, ◌^◌, Bool, true, false, max, List, ◌++◌, length, Some, refl, ap, sym, ◌∙◌, arith}
+use Rattle.std.proofs.Common.{◌≡◌, ℕ, ◌≤◌, Bool, true, false, List, ◌++◌, length, Some, ap, ◌∙◌, arith}
 use Rattle.std.proofs.lemmas.List.Elements.{All-contains, All-from_recursion}
 use Rattle.yew_laws.specs.Tree.{Member, node_at, tree}
 use Rattle.yew_laws.proofs.Trees.{tree-contains, tree-sound}
@@ -7,13 +7,13 @@ use Rattle.yew_tsp.specs.declared.nodes.TourNode.{TourNode}
 use Rattle.yew_tsp.specs.BoundLaws.{tour-small, worth-whole}
 use Rattle.yew_tsp.specs.Instance.{Instance}
 use Rattle.yew_tsp.specs.NodeLaws.{tours-ranked, length-cities}
-use Rattle.yew_tsp.specs.Nodes.{cities_of, children_of, rank_of, worth_of, lower_of, bound_of, IsNode}
-use Rattle.yew_tsp.specs.Routes.{is_tour, way_length, tour_length}
+use Rattle.yew_tsp.specs.Nodes.{cities_of, children_of, rank_of, worth_of, bound_of, IsNode}
+use Rattle.yew_tsp.specs.Routes.{tour_length}
 use Rattle.yew_tsp.proofs.Paths.{reaches}
 use Rattle.yew_tsp.proofs.TreeIs.{tour-parts}
-use Rattle.yew_span.specs.Bounds.{still_to_join, least_rest, bound_with, spanned_bound, BoundIs, IsLowerLength}
+use Rattle.yew_span.specs.Bounds.{still_to_join, bound_with, spanned_bound, BoundIs, IsLowerLength}
 use Rattle.yew_span.specs.Growth.{span}
-use Rattle.yew_span.specs.Span.{IsSymmetric, IsSpan}
+use Rattle.yew_span.specs.Span.{IsSymmetric}
 use Rattle.yew_span.specs.SpanLaws.{span-one}
 use Rattle.yew_span.specs.SpannedLaws.{join-span, spanned-bounded}
 

@@ -1,14 +1,14 @@
 -- The numbers of cities place by place: those that are left out of a list, its last one, and the steps between them.
-use Rattle.std.proofs.Common.{◌≡◌, ℕ, zero, suc, ◌+◌, ◌-◌, ◌*◌, ◌<◌, ◌≤◌, ◌^◌, Bool, true, false, cond, not, List, [], ◌∷◌, ◌++◌, length, take, filter, get_or, append_assoc, refl, ap, ap₂, sym, subst, ◌∙◌, arith}
-use Rattle.std.specs.List.{AllByRecursion, range_with_len}
+use Rattle.std.proofs.Common.{◌≡◌, ℕ, ◌+◌, ◌-◌, ◌*◌, ◌<◌, ◌≤◌, Bool, true, false, cond, not, List, [], ◌∷◌, ◌++◌, length, take, filter, get_or, append_assoc, refl, ap, ap₂, sym, ◌∙◌, arith}
+use Rattle.std.specs.List.{range_with_len}
 use Rattle.std.proofs.lemmas.List.{take_more, length-take-le, length_push}
 use Rattle.yew_laws.specs.Sets.{contains}
 use Rattle.yew_tsp.specs.declared.nodes.TourNode.{TourNode}
-use Rattle.yew_tsp.specs.BoundLaws.{way-small, lower-small}
+use Rattle.yew_tsp.specs.BoundLaws.{way-small}
 use Rattle.yew_tsp.specs.Instance.{Instance, IsWithinLimits, weight_between}
 use Rattle.yew_tsp.specs.Lists.{filter-append, range-push}
 use Rattle.yew_tsp.specs.NodeLaws.{length-cities, way_length-push}
-use Rattle.yew_tsp.specs.Nodes.{cities_of, unvisited_of, lower_of, IsNode}
+use Rattle.yew_tsp.specs.Nodes.{cities_of, unvisited_of, IsNode}
 use Rattle.yew_tsp.specs.Routes.{way_length}
 use Rattle.yew_span.specs.Bounds.{ends, still_to_join}
 use Rattle.yew_span.specs.Growth.{span}

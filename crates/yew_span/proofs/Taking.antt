@@ -1,10 +1,10 @@
 -- The cities outside as they stand in an array, while one of them is taken in.
-use Rattle.std.proofs.Common.{◌≡◌, ◌≢◌, ℕ, zero, suc, ◌+◌, ◌-◌, ◌*◌, ◌<◌, ◌≤◌, Bool, true, false, cond, min, not, ◌&&◌, ◌||◌, ◌==◌, List, [], ◌∷◌, ◌++◌, length, take, drop, map, filter, get_or, set, refl, ap, ap₂, sym, subst, ◌∙◌, arith, inl, inr}
-use Rattle.std.specs.List.{AllByRecursion, range_with_len}
-use Rattle.std.proofs.lemmas.Bool.{cases_eq, and_parts, true≢false}
+use Rattle.std.proofs.Common.{◌≡◌, ◌≢◌, ℕ, zero, suc, ◌+◌, ◌-◌, ◌*◌, ◌<◌, ◌≤◌, Bool, true, false, cond, not, ◌&&◌, ◌||◌, ◌==◌, List, [], ◌∷◌, ◌++◌, length, take, drop, map, filter, get_or, set, refl, ap, ap₂, sym, subst, ◌∙◌, arith}
+use Rattle.std.specs.List.{AllByRecursion}
+use Rattle.std.proofs.lemmas.Bool.{and_parts}
 use Rattle.std.proofs.lemmas.Bool.Decides.{nat_tests}
 use Rattle.std.proofs.lemmas.Grind.{drop_more_same}
-use Rattle.std.proofs.lemmas.List.{length-take-le, take_more, take_more_set, drop-set-lt, length-set, drop_more, length-map}
+use Rattle.std.proofs.lemmas.List.{length-take-le, take_more, take_more_set, drop-set-lt, length-set, drop_more}
 use Rattle.yew_laws.specs.Sets.{contains, are_different, are_within}
 use Rattle.yew_laws.proofs.Members.{AllByRecursion-map, AllByRecursion-weaker}
 use Rattle.yew_span.specs.declared.growing.Outside.{Outside}
@@ -12,8 +12,8 @@ use Rattle.yew_span.specs.Growth.{nearest, is_left, updated, left_over, beside, 
 use Rattle.yew_span.specs.Outsides.{IsNearest, IsAllowed, AreAllowed}
 use Rattle.yew_span.specs.Stages.{outside, nearest-has, outside-all, left-fewer}
 use Rattle.yew_tsp.specs.BoundLaws.{weight-small}
-use Rattle.yew_tsp.specs.Instance.{Instance, IsWithinLimits, weight_between}
-use Rattle.yew_tsp.specs.Lists.{is_other, filter-all, filter-append, filter-every, length-without, within-parts, within-all}
+use Rattle.yew_tsp.specs.Instance.{Instance, IsWithinLimits}
+use Rattle.yew_tsp.specs.Lists.{is_other, filter-all, filter-append, length-without, within-parts}
 
 -- the first of the old ones, with the weight from the city that is taken in, stand in front of the new ones
 pub record IsMoved (instance : Instance) (taken : Outside) (old new : List Outside) (kept place : ℕ) : Type 0 where

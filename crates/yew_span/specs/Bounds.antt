@@ -1,7 +1,6 @@
 -- The bound of a list of cities, where what is still to be gone through is joined by its span at least.
 use Rattle.std.specs.Prelude.{◌≡◌, ℕ, ◌+◌, ◌-◌, ◌≤◌, ◌^◌, Bool, true, List, [], ◌∷◌, ◌++◌, max, sum_by, ◌==◌, IsTrue, if◌then◌else◌}
-use Rattle.yew_laws.specs.SearchTree.{SearchTree, preorder}
-use Rattle.yew_laws.specs.Greatest.{greatest}
+use Rattle.yew_laws.specs.SearchTree.{SearchTree}
 use Rattle.yew_span.specs.Growth.{span}
 use Rattle.yew_span.specs.Span.{IsSpan}
 use Rattle.yew_tsp.specs.declared.nodes.TourNode.{TourNode}

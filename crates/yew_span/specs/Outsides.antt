@@ -1,5 +1,5 @@
 -- What the search for the nearest city answers, and which cities stand outside.
-use Rattle.std.specs.Prelude.{◌≡◌, ◌≤◌, ℕ, List, [], ◌∷◌}
+use Rattle.std.specs.Prelude.{◌≡◌, ◌≤◌, List, [], ◌∷◌}
 use Rattle.std.specs.List.{AllByRecursion}
 use Rattle.yew_span.specs.declared.growing.Outside.{Outside}
 use Rattle.yew_span.specs.Growth.{nearest}

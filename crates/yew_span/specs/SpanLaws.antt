@@ -1,7 +1,7 @@
 -- Taking in the nearest city each time joins all cities by the least weight (Prim's algorithm is right).
-use Rattle.std.specs.Prelude.{◌≡◌, ◌≢◌, ℕ, ◌+◌, ◌<◌, ◌≤◌, Bool, true, false, not, ◌&&◌, ◌||◌, ◌==◌, List, [], ◌∷◌, ◌++◌, length, map, filter, sum_by, refl}
+use Rattle.std.specs.Prelude.{◌≡◌, ◌≢◌, ℕ, ◌+◌, ◌≤◌, Bool, true, false, not, ◌&&◌, ◌==◌, List, [], ◌∷◌, ◌++◌, length, map, filter, refl}
 use Rattle.std.specs.List.{AllByRecursion}
-use Rattle.std.proofs.Common.{zero, suc, cond, ap, sym, subst, ◌∙◌, arith, inl, inr, ◌⊎◌}
+use Rattle.std.proofs.Common.{zero, suc, cond, ap, sym, subst, ◌∙◌, arith, inl, inr}
 use Rattle.std.proofs.lemmas.Bool.{and_parts, cases_eq, true≢false}
 use Rattle.std.proofs.lemmas.Bool.Decides.{nat_tests}
 use Rattle.std.proofs.lemmas.List.{length-map}
@@ -13,8 +13,8 @@ use Rattle.yew_span.specs.declared.growing.Outside.{Outside}
 use Rattle.yew_span.specs.Chains.{joined-agree, joined-self, joined-through, joined-turned, joined-more, joined-first}
 use Rattle.yew_span.specs.Exchange.{Agrees, label_of, labels-agree, labels-finest, Exchange, exchange}
 use Rattle.yew_span.specs.Growth.{nearest, left_over, grown, beside, span}
-use Rattle.yew_span.specs.Span.{IsSymmetric, pair_weight, total_weight, IsJoined, IsWithin, IsConnecting, IsSpan}
-use Rattle.yew_span.specs.Stages.{outside, nearest-has, nearest-least, IsThere, outside-there, outside-head, outside-tail, outside-all, left-contains, left-fewer, IsNear, IsStage, one-of, stage-more}
+use Rattle.yew_span.specs.Span.{IsSymmetric, pair_weight, total_weight, IsJoined, IsWithin, IsSpan}
+use Rattle.yew_span.specs.Stages.{outside, nearest-has, nearest-least, outside-there, outside-head, outside-tail, outside-all, left-contains, left-fewer, IsNear, IsStage, one-of, stage-more}
 use Rattle.yew_tsp.specs.Instance.{Instance, weight_between}
 use Rattle.yew_tsp.specs.Lists.{filter-all, filter-passes, member-all}
 

@@ -1,8 +1,8 @@
 -- The bound with the span: no tour at or below a node is worth more.
-use Rattle.std.specs.Prelude.{◌≡◌, ◌≢◌, ℕ, ◌+◌, ◌-◌, ◌*◌, ◌<◌, ◌≤◌, ◌^◌, Bool, true, false, not, ◌&&◌, ◌||◌, ◌==◌, List, [], ◌∷◌, ◌++◌, length, take, max, filter, sum_by, if◌then◌else◌, IsTrue, refl}
+use Rattle.std.specs.Prelude.{◌≡◌, ◌≢◌, ℕ, ◌+◌, ◌≤◌, Bool, true, false, not, ◌&&◌, ◌||◌, ◌==◌, List, [], ◌∷◌, ◌++◌, length, take, filter, sum_by, if◌then◌else◌, refl}
 use Rattle.std.specs.List.{AllByRecursion, range_with_len}
-use Rattle.std.proofs.Common.{suc, cond, ap, sym, subst, ◌∙◌, arith, inl, inr, ◌⊎◌}
-use Rattle.std.proofs.lemmas.Bool.{and_from, cases_eq, true≢false}
+use Rattle.std.proofs.Common.{cond, ap, sym, subst, ◌∙◌, arith, inl, inr, ◌⊎◌}
+use Rattle.std.proofs.lemmas.Bool.{cases_eq, true≢false}
 use Rattle.std.proofs.lemmas.Bool.Decides.{nat_tests}
 use Rattle.std.proofs.lemmas.List.{length-append, nil_from_length}
 use Rattle.std.proofs.lemmas.List.Sums.{sum_by-cons}
@@ -10,17 +10,17 @@ use Rattle.yew_laws.specs.Sets.{contains, are_different}
 use Rattle.yew_laws.specs.Tree.{IsBounded}
 use Rattle.yew_laws.proofs.Bounds.{IsBounded-from_steps}
 use Rattle.yew_laws.proofs.Members.{AllByRecursion-append, AllByRecursion-weaker}
-use Rattle.yew_span.specs.Bounds.{ends, still_to_join, least_rest, bound_with, spanned_bound}
-use Rattle.yew_span.specs.Chains.{joined-self, joined-through, joined-turned, joined-more, joined-first}
+use Rattle.yew_span.specs.Bounds.{ends, still_to_join, least_rest, spanned_bound}
+use Rattle.yew_span.specs.Chains.{joined-through, joined-turned, joined-more, joined-first}
 use Rattle.yew_span.specs.Growth.{span}
-use Rattle.yew_span.specs.Span.{IsSymmetric, pair_weight, total_weight, IsJoined, IsWithin, IsConnecting, IsSpan}
-use Rattle.yew_span.specs.SpanLaws.{span-whole, span-one}
+use Rattle.yew_span.specs.Span.{IsSymmetric, pair_weight, IsJoined, IsWithin, IsConnecting, IsSpan}
+use Rattle.yew_span.specs.SpanLaws.{span-whole}
 use Rattle.yew_tsp.specs.declared.nodes.TourNode.{TourNode}
-use Rattle.yew_tsp.specs.BoundLaws.{least-step, last-listed, last-within, last-other, free-other, step_back, tour-small, worth-whole, worth-part, tours-bounded, lower-small}
-use Rattle.yew_tsp.specs.Instance.{Instance, IsWithinLimits, weight_between}
+use Rattle.yew_tsp.specs.BoundLaws.{least-step, last-listed, last-within, last-other, free-other, step_back, worth-whole, worth-part, tours-bounded}
+use Rattle.yew_tsp.specs.Instance.{Instance, weight_between}
 use Rattle.yew_tsp.specs.Lists.{contains-append, filter-passes, is_other}
 use Rattle.yew_tsp.specs.NodeLaws.{IsFree, unvisited-free, free-listed, unvisited-different, unvisited-appended, way_length-push, cities-appended, lower-appended, child-sound, IsAppended, children-appended, tours-ranked}
-use Rattle.yew_tsp.specs.Nodes.{least_weight, cities_of, unvisited_of, appended, children_of, worth_of, lower_of, bound_of, IsNode}
+use Rattle.yew_tsp.specs.Nodes.{least_weight, cities_of, unvisited_of, appended, children_of, worth_of, IsNode}
 use Rattle.yew_tsp.specs.Routes.{begins_with_one, way_length, tour_length}
 
 -- ---- one more city

@@ -9,6 +9,8 @@
 mod growing;
 pub mod laws;
 mod spanned;
+#[cfg(test)]
+mod tests;
 
 pub use growing::least_span;
 pub use spanned::Spanned;

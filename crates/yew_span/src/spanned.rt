@@ -60,7 +60,7 @@ fn length_so_far(tours: &Tours, listed: &[u32]) -> u64
 
 /// Whether a city is among these.
 #[inline(always)]
-fn is_among(listed: &[u32], city: u32) -> bool
+pub(crate) fn is_among(listed: &[u32], city: u32) -> bool
     ensures { result ≡ contains listed.now city }
 {
     for place in 0..listed.len() {

@@ -316,6 +316,23 @@ fn judges_lists(rt: HostRuntime) -> Result<(), Fail> {
     Ok(())
 }
 
+#[test]
+fn tells_weights_and_lists(rt: HostRuntime) -> Result<(), Fail> {
+    let two = read(rt.alloc(), TWO.as_bytes())?;
+    assert_eq!(rt; two.cities(), 2);
+    if two.cities() == 2 {
+        assert_eq!(rt; two.weight(1, 2), 3);
+        assert_eq!(rt; two.weight(2, 1), 4);
+        assert_eq!(rt; two.weight(2, 2), 0);
+    }
+    let four = read(rt.alloc(), FULL.as_bytes())?;
+    match node_at(rt.alloc(), &four, &[2, 0])? {
+        Some(node) => assert_eq!(rt; node.list().as_slice(), [1, 4, 2].as_slice()),
+        None => assert!(rt; false),
+    }
+    Ok(())
+}
+
 /// The text of the node at a path, where it has some worth; with a gap, that of a tour with it.
 fn text_at(
     alloc: Global,

@@ -1,8 +1,8 @@
-use Rattle.std.proofs.Common.{◌≡◌, ◌+◌, ◌<◌, ◌≤◌, length, take, get_or, ap, ap₂, sym, subst, ◌∙◌, arith, ℕ, min}
+use Rattle.std.proofs.Common.{◌≡◌, ◌<◌, length, take, get_or, ap, sym, subst, ◌∙◌, arith, ℕ, min}
 use Rattle.std.proofs.lemmas.List.{length-take-le, get_or-take}
 use Rattle.yew_span.specs.declared.growing.Outside.{Outside}
 use Rattle.yew_span.specs.Outsides.{IsAllowed}
-use Rattle.yew_span.proofs.Taking.{IsMoved, get-rest, all-at, moved-out, moved-on}
+use Rattle.yew_span.proofs.Taking.{get-rest, all-at, moved-out, moved-on}
 use Rattle.yew_span.proofs.growing.take_in.Goals as goal
 use Rattle.yew_span.proofs.growing.take_in.Goals.{then-other-taken, else-other-taken}
 

@@ -1,6 +1,5 @@
 use Rattle.yew_span.proofs.Lower.{bound-is, bound-below}
 use Rattle.std.proofs.Common.{ap}
-use Rattle.yew_tsp.specs.Nodes.{bound_of}
 use Rattle.yew_span.specs.Bounds.{spanned_bound}
 use Rattle.yew_span.proofs.laws.spanned_bounds.Goals as goal
 

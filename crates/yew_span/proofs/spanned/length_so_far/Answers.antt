@@ -1,4 +1,4 @@
-use Rattle.std.proofs.Common.{◌≡◌, ◌-◌, get_or, arith}
+use Rattle.std.proofs.Common.{◌-◌, get_or, arith}
 use Rattle.yew_tsp.specs.BoundLaws.{weight-small}
 use Rattle.yew_span.proofs.Placing.{way-more, way-front}
 use Rattle.yew_span.proofs.spanned.length_so_far.Goals as goal

@@ -1,11 +1,11 @@
-use Rattle.std.proofs.Common.{◌≡◌, ◌+◌, ◌-◌, ◌≤◌, ◌∙◌, take, ap, sym, subst, true, arith}
+use Rattle.std.proofs.Common.{◌≡◌, ◌∙◌, take, ap, sym, subst, true, arith}
 use Rattle.std.proofs.lemmas.List.{length-take-le}
 use Rattle.yew_laws.specs.Sets.{are_different, are_within}
 use Rattle.yew_tsp.specs.BoundLaws.{lower-small}
 use Rattle.yew_tsp.specs.Lists.{within-all}
-use Rattle.yew_tsp.specs.Nodes.{cities_of, lower_of}
+use Rattle.yew_tsp.specs.Nodes.{cities_of}
 use Rattle.yew_tsp.specs.Routes.{way_length}
-use Rattle.yew_span.specs.Bounds.{least_rest, still_to_join, spanned_bound}
+use Rattle.yew_span.specs.Bounds.{still_to_join, spanned_bound}
 use Rattle.yew_span.specs.Growth.{span}
 use Rattle.yew_span.specs.Span.{IsSpan}
 use Rattle.yew_span.specs.SpanLaws.{span-one}

@@ -1,0 +1,17 @@
+use Rattle.std.proofs.Common.{List, ℕ, Option, Some, None, Result, Ok, Err, IfOk, IfSome, Contains}
+use Rattle.yew_laws.specs.declared.memory.Memory.{Memory}
+use Rattle.yew_laws.specs.SearchTree.{preorder}
+use Rattle.yew_tsp.specs.declared.nodes.TourNode.{TourNode}
+use Rattle.yew_tsp.specs.Answers.{tours_tree}
+use Rattle.yew_tsp.specs.Instance.{Instance, IsWithinLimits}
+use Rattle.yew_tsp.specs.Nodes.{IsNode}
+use Rattle.yew_tsp.proofs.TreeIs.{member-sound}
+use Rattle.yew_span.proofs.tests.node_at.Goals as goal
+
+found-sound : (instance : Instance) → IsWithinLimits instance → (path : List ℕ) (r : Result (Option TourNode) Memory) → IfOk r (λ found. IfSome found (λ node. Contains (preorder (tours_tree instance)) (record { path = path; node = node }))) → IfOk r (λ found. IfSome found (IsNode instance))
+found-sound instance limits path (Ok (Some node)) h = member-sound instance limits (record { path = path; node = node }) h
+found-sound instance limits path (Ok None) h = tt
+found-sound instance limits path (Err e) h = tt
+
+pub returns : goal.returns
+returns c = found-sound c.args.problem.now c.requires.limits c.loop-number.path.numbers c.rebuild.result c.rebuild.ensures.some
