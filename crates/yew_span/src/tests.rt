@@ -178,7 +178,7 @@ fn spans_are_least(rt: HostRuntime) -> Result<(), Fail> {
     Ok(())
 }
 
-/// The node at a path.
+/// The node at a path of the tree with the span.
 fn node_at(alloc: Global, problem: &Tours, numbers: &[u32]) -> Result<Option<TourNode>, Memory>
     requires { IsNode problem.now (root_of problem.now) }
     ensures { IfOk result (λ found. IfSome found (IsNode problem.now)) }
@@ -187,7 +187,8 @@ fn node_at(alloc: Global, problem: &Tours, numbers: &[u32]) -> Result<Option<Tou
     for number in numbers {
         path = path.child(*number)?;
     }
-    rebuild(alloc, problem, &path)
+    let spanned = Spanned::new(problem);
+    rebuild(alloc, &spanned, &path)
 }
 
 /// The weight between two of five cities.

@@ -1,4 +1,4 @@
-use Rattle.std.proofs.Common.{List, ℕ, Option, Some, None, Result, Ok, Err, IfOk, IfSome, Contains}
+use Rattle.std.proofs.Common.{List, ℕ, Option, Some, None, Result, Ok, Err, IfOk, IfSome, Contains, subst, sym}
 use Rattle.yew_laws.specs.declared.memory.Memory.{Memory}
 use Rattle.yew_laws.specs.SearchTree.{preorder}
 use Rattle.yew_tsp.specs.declared.nodes.TourNode.{TourNode}
@@ -14,4 +14,6 @@ found-sound instance limits path (Ok None) h = tt
 found-sound instance limits path (Err e) h = tt
 
 pub returns : goal.returns
-returns c = found-sound c.args.problem.now c.requires.limits c.loop-number.path.numbers c.rebuild.result c.rebuild.ensures.some
+returns c =
+    subst (λ i. IfOk c.rebuild.result (λ found. IfSome found (IsNode i))) c.new-spanned.ensures.inner
+    (found-sound c.new-spanned.result.inner.now (subst IsWithinLimits (sym c.new-spanned.ensures.inner) c.requires.limits) c.loop-number.path.numbers c.rebuild.result c.rebuild.ensures.some)
