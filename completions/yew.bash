@@ -51,6 +51,7 @@ _yew() {
                 esac
                 case $job in
                     knapsack) options+=(--target) ;;
+                    tsp) options+=(--near --span) ;;
                     semigroups) options+=(--genus) ;;
                 esac
                 case $job:$second in

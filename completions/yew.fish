@@ -74,6 +74,8 @@ function __yew_option
     switch $words[2]
         case knapsack
             set -a options --target
+        case tsp
+            set -a options --near --span
         case semigroups
             set -a options --genus
     end
@@ -121,6 +123,8 @@ complete -c yew -n '__yew_option --chunk' -a --chunk -d 'what is given, one or a
 complete -c yew -n '__yew_option --target' -a --target -d 'profit, 0 to 1099511627774'
 complete -c yew -n '__yew_option --gap' -a --gap -d 'permitted gap, 0 to 1099511627774'
 complete -c yew -n '__yew_option --genus' -a --genus -d 'genus, 0 to 40'
+complete -c yew -n '__yew_option --near' -a --near -d 'nearest cities first'
+complete -c yew -n '__yew_option --span' -a --span -d 'a bound by least spanning trees'
 complete -c yew -n '__yew_option --report' -a --report -d 'totals behind the answer'
 complete -c yew -n '__yew_option --audit' -a --audit -d 'what became of every node'
 complete -c yew -n '__yew_option --seed' -a --seed -d 'seed, 0 to 18446744073709551615'

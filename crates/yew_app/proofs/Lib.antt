@@ -19,5 +19,6 @@ pub mod SearchTexts
 pub mod SearchedTrees
 pub mod Serving
 pub mod TourWorths
+pub mod ToursAsked
 pub mod Unreadable
 pub mod Writing

@@ -8,8 +8,11 @@ use Rattle.yew_flow.specs.Files as flow
 use Rattle.yew_knap.specs.Files as knap
 use Rattle.yew_lad.specs.Digraphs.{Digraph, GraphPair}
 use Rattle.yew_lad.specs.Files as lad
+use Rattle.yew_laws.specs.SearchTree.{SearchTree}
 use Rattle.yew_semi.specs.declared.semigroups.Semigroups.{Semigroups}
+use Rattle.yew_tsp.specs.declared.nodes.TourNode.{TourNode}
 use Rattle.yew_tsp.specs.Files as tsp
+use Rattle.yew_tsp.specs.Instance.{Instance}
 use Rattle.yew_words.specs.declared.plan.Job.{Job}
 use Rattle.yew_words.specs.declared.plan.Job.TheVariants as jobs
 use Rattle.yew_words.specs.declared.plan.Made.TheVariants as made
@@ -24,7 +27,7 @@ use Rattle.yew_app.specs.Knapsacks.{IsGoodKnapsack, goal_of, knapsack_meaning}
 use Rattle.yew_app.specs.Meanings.{Meaning, IsOneWay}
 use Rattle.yew_app.specs.Refusals.{Reason}
 use Rattle.yew_app.specs.Semigroups.{semigroups_meaning}
-use Rattle.yew_app.specs.ShortestTours.{IsGoodTours, tours_meaning}
+use Rattle.yew_app.specs.ShortestTours.{IsGoodTours, tours_meaning, tree_asked}
 use Rattle.yew_app.specs.Subgraphs.{IsGoodGraph, ReadsPair, maps_meaning}
 use Rattle.yew_app.proofs.FileKinds.{knapsack_laws, tour_laws, graph_laws, flow_laws}
 use Rattle.yew_app.proofs.FileReasons.{one_reason_of_file, read_not_refused}
@@ -43,8 +46,8 @@ knapsack-one_way laws name goal = record {
   not_both = λ told. read_not_refused IsGoodKnapsack knap.IsKnapsackOffence knap.IsPastLimit (knapsack_laws laws) told name;
 }
 
-tours-one_way : tsp.FileLaws → (name : Word) (gap : Option ℕ) → IsOneWay (tours_meaning name gap)
-tours-one_way laws name gap = record {
+tours-one_way : tsp.FileLaws → (name : Word) (gap : Option ℕ) (tree : Instance → SearchTree TourNode) → IsOneWay (tours_meaning name gap tree)
+tours-one_way laws name gap tree = record {
   one_instance = λ told. one-read IsGoodTours (λ bytes a b p q. laws.one_instance bytes a b p.is_file q.is_file) told name;
   one_reason = λ told. one_reason_of_file IsGoodTours tsp.IsTourOffence tsp.IsPastLimit (tour_laws laws) told name;
   not_both = λ told. read_not_refused IsGoodTours tsp.IsTourOffence tsp.IsPastLimit (tour_laws laws) told name;
@@ -111,7 +114,7 @@ job-one_way knap tsp lad flow jobs.Knapsack [] plan e = absurd (cc)
 job-one_way knap tsp lad flow jobs.Knapsack (name ∷ []) plan e = knapsack-one_way knap name (goal_of plan.target plan.gap)
 job-one_way knap tsp lad flow jobs.Knapsack (name ∷ second ∷ names) plan e = absurd (omega (arith, e))
 job-one_way knap tsp lad flow jobs.Tsp [] plan e = absurd (cc)
-job-one_way knap tsp lad flow jobs.Tsp (name ∷ []) plan e = tours-one_way tsp name plan.gap
+job-one_way knap tsp lad flow jobs.Tsp (name ∷ []) plan e = tours-one_way tsp name plan.gap (tree_asked plan.near plan.span)
 job-one_way knap tsp lad flow jobs.Tsp (name ∷ second ∷ names) plan e = absurd (omega (arith, e))
 job-one_way knap tsp lad flow jobs.Subgraph [] plan e = absurd (cc)
 job-one_way knap tsp lad flow jobs.Subgraph (name ∷ []) plan e = absurd (omega (arith, e))

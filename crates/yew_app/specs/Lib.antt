@@ -17,4 +17,5 @@ pub mod Solutions
 pub mod Stops
 pub mod Subgraphs
 pub mod Texts
+pub mod TourTreeLaws
 pub mod Ways

@@ -32,6 +32,19 @@ abbrev pub known_files : List Word → Option (List File) → Option (List File)
 known_files [] files = Some []
 known_files (name ∷ names) files = files
 
+-- the meaning of what is searched in the place of an instance: that of the instance from which it is made
+abbrev pub meaning_by : {X Y N : Type 0} → (Y → X) → Meaning X N → Meaning Y N
+meaning_by instance_of m = record {
+  names = m.names;
+  Reads = λ told made. m.Reads told (instance_of made);
+  Opens = m.Opens;
+  Refuses = m.Refuses;
+  tree = λ made. m.tree (instance_of made);
+  kind = m.kind;
+  lines = λ made. m.lines (instance_of made);
+  IsRight = λ made. m.IsRight (instance_of made);
+}
+
 module _ {X N : Type 0} (m : Meaning X N) where
   -- files are read to one instance or refused for one reason
   pub record IsOneWay : Type 0 where

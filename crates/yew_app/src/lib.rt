@@ -27,5 +27,7 @@ mod tail;
 mod tests;
 mod top;
 mod tours;
+mod tours_searched;
+mod tours_text;
 
 pub use top::{run, run_plain};

@@ -94,7 +94,7 @@ pub(crate) fn solve_together<
 }
 
 /// Why a search gave nothing.
-fn stopped<'a>(fault: SearchFault) -> Refusal<'a>
+pub(crate) fn stopped<'a>(fault: SearchFault) -> Refusal<'a>
     ensures { reason_of result ≡ search_reason fault }
 {
     match fault {
@@ -115,7 +115,7 @@ fn stopped<'a>(fault: SearchFault) -> Refusal<'a>
 /// The text of an instance that is searched in preorder, with what is asked for beside the answer.
 ///
 /// There is none where memory runs out, or where the audit that is asked for has no room for its next entry.
-fn text_alone<J: SearchJob>(
+pub(crate) fn text_alone<J: SearchJob>(
     alloc: Global,
     job: &J,
     problem: &J::Instance,
@@ -146,7 +146,7 @@ fn text_alone<J: SearchJob>(
 ///
 /// There is none where memory runs out, where the audit that is asked for has no room for its next entry, or where tasks are
 /// claimed in order and there are too many of them.
-fn text_together<J: SearchJob, G: Gate, H: Threads + Wait + Sync>(
+pub(crate) fn text_together<J: SearchJob, G: Gate, H: Threads + Wait + Sync>(
     crew: &Crew<H, G>,
     alloc: Global,
     job: &J,

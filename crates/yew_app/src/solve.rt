@@ -22,6 +22,7 @@ use crate::search::{solve_alone, solve_together};
 use crate::semigroups::SemigroupsJob;
 use crate::subgraph::SubgraphJob;
 use crate::tours::tours_of;
+use crate::tours_text::{solve_tours_alone, solve_tours_together};
 use std::alloc::Global;
 use std::sync::Wait;
 use std::thread::Threads;
@@ -61,7 +62,7 @@ pub(crate) fn solve_plain<'a, S: Shelf<'a>>(
         }
         Job::Tsp => {
             let job = tours_of(plan);
-            solve_alone(alloc, shelf, &job, asked)
+            solve_tours_alone(alloc, shelf, &job, asked)
         }
         Job::Subgraph => {
             let names = both_files(plan);
@@ -119,7 +120,7 @@ pub(crate) fn solve_by_crew<'a, S: Shelf<'a>, G: Gate, H: Threads + Wait + Sync>
         }
         Job::Tsp => {
             let job = tours_of(plan);
-            solve_together(crew, alloc, shelf, &job, asked)
+            solve_tours_together(crew, alloc, shelf, &job, asked)
         }
         Job::Subgraph => {
             let names = both_files(plan);

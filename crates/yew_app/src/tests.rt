@@ -11,6 +11,7 @@ mod knapsack;
 mod logs;
 mod made;
 mod ordered;
+mod orders;
 mod outcomes;
 mod semigroups;
 mod tours;

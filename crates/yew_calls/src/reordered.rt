@@ -14,6 +14,9 @@ use std::marker::PhantomData;
 use std::vec::IntoIter;
 use yew_laws::{Memory, Problem};
 
+/// For how many children room is made at once: a list that grows to its length is copied each time.
+const SOME_CHILDREN: usize = 32;
+
 /// By which keys the children of a problem are put in order. No code has a value of it.
 pub trait KeyShape<P: Problem>: Sync {
     /// The key of a node of a problem.
@@ -84,7 +87,7 @@ impl<'a, P: Problem, M: KeyShape<P>, K: Fn(&P::Node) -> u64 + Sync> Problem
 
     fn open(&self, alloc: Global, node: P::Node) -> Result<IntoIter<Keyed<P::Node>>, Memory> {
         let mut kids = self.inner.open(alloc, node)?;
-        let mut keyed = Vec::new(alloc);
+        let mut keyed = Vec::with_capacity(alloc, SOME_CHILDREN)?;
         while let Some(child) = self.inner.next(alloc, &mut kids)? {
             let key = (self.key)(&child);
             keyed.push(Keyed { key, node: child })?;

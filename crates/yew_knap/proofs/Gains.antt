@@ -6,22 +6,22 @@ use Rattle.std.proofs.Math.Seq.{take-add}
 use Rattle.std.proofs.lemmas.Bool.{cases_lt, le-leb, lt-leb}
 use Rattle.std.proofs.lemmas.List.{get_or-drop}
 use Rattle.std.proofs.lemmas.List.Sums.{sum_by-cons, sum_by-append}
-use Rattle.yew_knap.specs.declared.order.Numbered.{Numbered}
+use Rattle.yew_knap.specs.declared.copies.ItemCopy.{ItemCopy}
 use Rattle.yew_knap.specs.BoundLaws.{dantzig-fits, dantzig-stops}
 use Rattle.yew_knap.specs.declared.places.Place.{Place}
-use Rattle.yew_knap.specs.OrderLaws.{IsSmallNumbered}
+use Rattle.yew_knap.specs.CopyLaws.{IsSmallCopy}
 use Rattle.yew_knap.specs.Places.{all_places, reciprocal_of}
 use Rattle.yew_knap.proofs.PlaceTable.{place_at, item-at, end-at, profit-at, weight-at}
 use Rattle.yew_knap.specs.Nodes.{breaking_place, item_of, dantzig}
 
-abbrev profits : List Numbered → ℕ
+abbrev profits : List ItemCopy → ℕ
 profits items = sum_by (λ item. item.profit) items
 
-abbrev weights : List Numbered → ℕ
+abbrev weights : List ItemCopy → ℕ
 weights items = sum_by (λ item. item.weight) items
 
 -- how many items are taken, which fit, and what is gained
-pub record Taken (room place : ℕ) (items : List Numbered) : Type 0 where
+pub record Taken (room place : ℕ) (items : List ItemCopy) : Type 0 where
   pub count : ℕ
   pub is : breaking_place room place items ≡ place + count
   pub within : count ≤ length items
@@ -30,7 +30,7 @@ pub record Taken (room place : ℕ) (items : List Numbered) : Type 0 where
   pub whole : count ≡ length items → dantzig room items ≡ profits (take count items)
   pub part : count < length items → dantzig room items ≡ profits (take count items) + (item_of items count).profit * (room - weights (take count items)) / (item_of items count).weight
 
-pub taken : (room place : ℕ) (items : List Numbered) → Taken room place items
+pub taken : (room place : ℕ) (items : List ItemCopy) → Taken room place items
 taken room place [] = record {
   count = 0;
   is = omega arith;
@@ -57,8 +57,8 @@ taken room place (x ∷ xs) =
       }
       | inr fits ↦
           let t = taken (room - x.weight) (place + 1) xs in
-          let profit = sum_by-cons (λ (item : Numbered). item.profit) x (take t.count xs) in
-          let weight = sum_by-cons (λ (item : Numbered). item.weight) x (take t.count xs) in
+          let profit = sum_by-cons (λ (item : ItemCopy). item.profit) x (take t.count xs) in
+          let weight = sum_by-cons (λ (item : ItemCopy). item.weight) x (take t.count xs) in
           let gain = dantzig-fits room x xs fits in
           record {
             count = suc t.count;
@@ -75,19 +75,19 @@ taken room place (x ∷ xs) =
           }
     ]
 
-item_of-drop : (n k : ℕ) (items : List Numbered) → item_of (drop n items) k ≡ item_of items (n + k)
-item_of-drop n k items = get_or-drop n items k (record { profit = 0; weight = 0; index = 0 })
+item_of-drop : (n k : ℕ) (items : List ItemCopy) → item_of (drop n items) k ≡ item_of items (n + k)
+item_of-drop n k items = get_or-drop n items k (record { profit = 0; weight = 0; item = 0; turn = 0; index = 0 })
 
-before-more : (items : List Numbered) (next : ℕ) (f : Numbered → ℕ) (count : ℕ) → sum_by f (take (next + count) items) ≡ sum_by f (take next items) + sum_by f (take count (drop next items))
+before-more : (items : List ItemCopy) (next : ℕ) (f : ItemCopy → ℕ) (count : ℕ) → sum_by f (take (next + count) items) ≡ sum_by f (take next items) + sum_by f (take count (drop next items))
 before-more items next f count = ap (sum_by f) (take-add next count items) ∙ sum_by-append f (take next items) (take count (drop next items))
 
-item-small : (n : ℕ) (items : List Numbered) (k : ℕ) → AllByRecursion (IsSmallNumbered n) items → k < length items → IsSmallNumbered n (item_of items k)
+item-small : (n : ℕ) (items : List ItemCopy) (k : ℕ) → AllByRecursion (IsSmallCopy n) items → k < length items → IsSmallCopy n (item_of items k)
 item-small n [] k a l = absurd (omega arith)
 item-small n (x ∷ xs) zero a l = a.0
 item-small n (x ∷ xs) (suc k) a l = item-small n xs k a.1 (omega arith)
 
 -- the same over the items from a place on, by the table of places
-pub record Gains (items : List Numbered) (places : List Place) (next breaking room : ℕ) : Type 0 where
+pub record Gains (items : List ItemCopy) (places : List Place) (next breaking room : ℕ) : Type 0 where
   pub within : breaking ≤ length items
   pub profits_rise : (place_at places next).profit_before ≤ (place_at places breaking).profit_before
   pub weights_rise : (place_at places next).weight_before ≤ (place_at places breaking).weight_before
@@ -97,7 +97,7 @@ pub record Gains (items : List Numbered) (places : List Place) (next breaking ro
   pub product : (place_at places breaking).profit * (room - ((place_at places breaking).weight_before - (place_at places next).weight_before)) < 2 ^ 64
   pub gain : dantzig room (drop next items) ≡ (place_at places breaking).profit_before - (place_at places next).profit_before + (place_at places breaking).profit * (room - ((place_at places breaking).weight_before - (place_at places next).weight_before)) / (place_at places breaking).weight
 
-module _ (items : List Numbered) (places : List Place) (are : places ≡ all_places 0 0 items) (n : ℕ) (small : AllByRecursion (IsSmallNumbered n) items) (next room : ℕ) (within : next ≤ length items) where
+module _ (items : List ItemCopy) (places : List Place) (are : places ≡ all_places 0 0 items) (n : ℕ) (small : AllByRecursion (IsSmallCopy n) items) (next room : ℕ) (within : next ≤ length items) where
   at_count : (t : Taken room next (drop next items)) → Gains items places next (next + t.count) room
   at_count t =
       let long : length (drop next items) ≡ length items - next = length-drop next items in
@@ -119,10 +119,10 @@ module _ (items : List Numbered) (places : List Place) (are : places ≡ all_pla
             let item = item_of-drop next t.count items in
             let light = item-small n items (next + t.count) small less in
             let heavy = t.heavy (omega (arith, less, long)) in
-            let heavy_item = ap (λ (i : Numbered). i.weight) item in
+            let heavy_item = ap (λ (i : ItemCopy). i.weight) item in
             let gain = t.part (omega (arith, less, long)) in
             let same : (item_of (drop next items) t.count).profit * (room - weights (take t.count (drop next items))) / (item_of (drop next items) t.count).weight ≡ (place_at places (next + t.count)).profit * (room - ((place_at places (next + t.count)).weight_before - (place_at places next).weight_before)) / (place_at places (next + t.count)).weight =
-            ap₂ (λ (i : Numbered) (r : ℕ). i.profit * r / i.weight) item left
+            ap₂ (λ (i : ItemCopy) (r : ℕ). i.profit * r / i.weight) item left
             ∙ ap₂ (λ p w. p * (room - ((place_at places (next + t.count)).weight_before - (place_at places next).weight_before)) / w) (sym profit) (sym weight)
             in
             let few : (place_at places (next + t.count)).profit ≤ 2 ^ 31 = let l = light.1 in omega (arith, profit, l) in

@@ -1,27 +1,26 @@
--- The sets of the members of the tree are all sets that can be carried, each once.
-use Rattle.std.proofs.Common.{◌≡◌, ℕ, ◌+◌, ◌-◌, ◌≤◌, ◌∙◌, Bool, true, List, [], ◌∷◌, length, Some, nat_le, refl, ap, ap₂, sym, subst, inl, inr, arith}
-use Rattle.std.specs.List.{AllByRecursion, Contains, filter, range_with_len, sum_by}
-use Rattle.std.proofs.lemmas.Bool.{and_parts, cases_lt, leb-true}
+-- The lists of numbers of copies of the members of the tree are all lists that can be carried, each once.
+use Rattle.std.proofs.Common.{◌≡◌, ℕ, ◌+◌, ◌-◌, ◌<◌, ◌≤◌, ◌∙◌, true, List, [], ◌∷◌, length, Some, nat_le, ap, ap₂, sym, subst, inl, inr, arith}
+use Rattle.std.specs.List.{AllByRecursion, Contains, sum_by}
+use Rattle.std.proofs.lemmas.Bool.{and_parts, cases_eq, cases_lt, leb-true}
 use Rattle.std.proofs.lemmas.List.Elements.{All-contains, All-from_recursion}
 use Rattle.std.proofs.lemmas.Option.{same_Some}
 use Rattle.yew_laws.specs.Greatest.{greatest_of, greatest}
 use Rattle.yew_laws.specs.SearchTree.{preorder}
-use Rattle.yew_laws.specs.Sets.{contains, is_set}
 use Rattle.yew_laws.specs.Tree.{Member, node_at, root_member, forest, tree}
 use Rattle.yew_laws.proofs.Members.{Contains-head, Contains-tail}
 use Rattle.yew_laws.proofs.Trees.{tree-contains, tree-node_at, tree-sound, tree-unfolds}
+use Rattle.yew_knap.specs.declared.knapsack.Item.{Item}
 use Rattle.yew_knap.specs.declared.nodes.KnapNode.{KnapNode}
 use Rattle.yew_knap.specs.Answers.{knapsack_tree, IsPacked, IsFound, TreePacks}
+use Rattle.yew_knap.specs.Copies.{searched_copies}
 use Rattle.yew_knap.specs.Instance.{Instance, IsWithinLimits}
-use Rattle.yew_knap.specs.ItemSets.{has_item}
 use Rattle.yew_knap.specs.NodeLaws.{knapsack-ranked, root-sound}
-use Rattle.yew_knap.specs.Nodes.{chosen_of, root_of, children_of, worth_of, IsNode, items_of}
-use Rattle.yew_knap.specs.Packings.{item_at, profit_of, weight_of, is_packing, IsBestProfit}
-use Rattle.yew_knap.specs.SearchedOrder.{searched_order}
-use Rattle.yew_knap.proofs.Amounts.{sum_by-picked, node-packed, each_place}
-use Rattle.yew_knap.proofs.Apart.{SameItems, one_path}
-use Rattle.yew_knap.proofs.NumberSets.{filter-agree, filter-contains, filter-same, range-all, range-at}
-use Rattle.yew_knap.proofs.Ways.{wanted_weight, Reaches, reaches}
+use Rattle.yew_knap.specs.Nodes.{amount_in, one_of, counts_from, chosen_of, root_of, children_of, worth_of, IsNode, items_of}
+use Rattle.yew_knap.specs.Packings.{are_counts, profit_of, weight_of, is_packing, IsBestProfit}
+use Rattle.yew_knap.proofs.Apart.{SameCounts, one_path}
+use Rattle.yew_knap.proofs.Counts.{node-packed}
+use Rattle.yew_knap.proofs.Wanted.{is_wanted, closed, weight-wanted, chosen-wanted}
+use Rattle.yew_knap.proofs.Ways.{reaches}
 
 -- a member that has the greatest worth
 record Attained (worth : KnapNode → ℕ) (ms : List (Member KnapNode)) : Type 0 where
@@ -63,53 +62,34 @@ module _ (instance : Instance) (limits : IsWithinLimits instance) where
   each-packed : (m : Member KnapNode) → Contains members m → IsPacked instance m.node
   each-packed m stands = node-packed instance m.node (member-sound m stands)
 
-  -- the wanted items of a set of numbers, by their places in the file
-  abbrev wanted_of : List ℕ → ℕ → Bool
-  wanted_of chosen k = contains chosen (k + 1)
-
-  wanted_of-number : (chosen : List ℕ) → filter (λ number. wanted_of chosen (number - 1)) (range_with_len 1 (length instance.items)) ≡ filter (contains chosen) (range_with_len 1 (length instance.items))
-  wanted_of-number chosen =
-      filter-agree (λ number. wanted_of chosen (number - 1)) (contains chosen) (range_with_len 1 (length instance.items))
-      (range-all (λ number. wanted_of chosen (number - 1) ≡ contains chosen number) 1 (length instance.items)
-      (λ k l m. let same : k - 1 + 1 ≡ k = omega arith in ap (contains chosen) same))
-
-  wanted-fits : (chosen : List ℕ) → is_packing instance chosen ≡ true → sum_by (wanted_weight instance (wanted_of chosen)) (searched_order instance) ≤ instance.capacity
-  wanted-fits chosen packs =
-      let both = and_parts (is_set 1 (length instance.items) chosen) (nat_le (weight_of instance chosen) instance.capacity) packs in
-      let light : weight_of instance chosen ≤ instance.capacity = leb-true (weight_of instance chosen) instance.capacity both.1 in
-      let picked = sum_by-picked instance (wanted_of chosen) (λ item. item.weight) (λ item. item.weight) (λ k item. refl) in
-      let same : filter (λ number. wanted_of chosen (number - 1)) (range_with_len 1 (length instance.items)) ≡ chosen = wanted_of-number chosen ∙ filter-contains (length instance.items) chosen both.0 in
-      let whole : sum_by (λ number. (item_at instance number).weight) (filter (λ number. wanted_of chosen (number - 1)) (range_with_len 1 (length instance.items))) ≡ weight_of instance chosen = ap (sum_by (λ number. (item_at instance number).weight)) same in
-      omega (arith, light, picked, whole)
-
-  reached-chosen : (chosen : List ℕ) → is_packing instance chosen ≡ true → (r : Reaches instance (wanted_of chosen)) → chosen_of instance r.last ≡ chosen
-  reached-chosen chosen packs r =
-      let both = and_parts (is_set 1 (length instance.items) chosen) (nat_le (weight_of instance chosen) instance.capacity) packs in
-      let at = each_place instance (λ k. has_item (items_of r.last) k ≡ wanted_of chosen k) r.agrees in
-      filter-agree (λ number. has_item (items_of r.last) (number - 1)) (λ number. wanted_of chosen (number - 1)) (range_with_len 1 (length instance.items))
-      (range-all (λ number. has_item (items_of r.last) (number - 1) ≡ wanted_of chosen (number - 1)) 1 (length instance.items) (λ k l m. at (k - 1) (omega arith)))
-      ∙ wanted_of-number chosen
-      ∙ filter-contains (length instance.items) chosen both.0
-
   all-found : (chosen : List ℕ) → is_packing instance chosen ≡ true → IsFound instance chosen
   all-found chosen packs =
-      let r = reaches instance (wanted_of chosen) limits (wanted-fits chosen packs) in
+      let both = and_parts (are_counts instance.items chosen) (nat_le (weight_of instance chosen) instance.capacity) packs in
+      let light : weight_of instance chosen ≤ instance.capacity = leb-true (weight_of instance chosen) instance.capacity both.1 in
+      let weight = weight-wanted instance chosen both.0 in
+      let r = reaches instance (is_wanted chosen) (closed chosen) limits (omega (arith, weight, light)) in
       record {
         member = record { path = r.path; node = r.last };
         stands = tree-contains (knapsack-ranked instance) r.path (root_of instance) r.last root r.found;
-        chosen_is = reached-chosen chosen packs r;
+        chosen_is = chosen-wanted instance chosen both.0 (items_of r.last) r.agrees;
       }
 
-  same-items : (a b : KnapNode) → chosen_of instance a ≡ chosen_of instance b → SameItems instance a b
-  same-items a b e k l =
-      let numbers = filter-same (λ number. has_item (items_of a) (number - 1)) (λ number. has_item (items_of b) (number - 1)) 1 (length instance.items) e in
-      let same : k + 1 - 1 ≡ k = omega arith in
-      subst (λ j. has_item (items_of a) j ≡ has_item (items_of b) j) same
-      (range-at (λ number. has_item (items_of a) (number - 1) ≡ has_item (items_of b) (number - 1)) 1 (length instance.items) numbers (k + 1) (omega arith) (omega arith))
+  same-from : (a b : KnapNode) (j : ℕ) (items : List Item) → counts_from (searched_copies instance) (items_of a) j items ≡ counts_from (searched_copies instance) (items_of b) j items → (k : ℕ) → j ≤ k → k < j + length items → sum_by (amount_in (one_of k) (items_of a)) (searched_copies instance) ≡ sum_by (amount_in (one_of k) (items_of b)) (searched_copies instance)
+  same-from a b j [] e k l m = absurd (omega arith)
+  same-from a b j (item ∷ items) e k l m =
+      let heads : sum_by (amount_in (one_of j) (items_of a)) (searched_copies instance) ≡ sum_by (amount_in (one_of j) (items_of b)) (searched_copies instance) = cc in
+      let rest : counts_from (searched_copies instance) (items_of a) (j + 1) items ≡ counts_from (searched_copies instance) (items_of b) (j + 1) items = cc in
+      elim (cases_eq j k) [
+        | inl same ↦ subst (λ i. sum_by (amount_in (one_of i) (items_of a)) (searched_copies instance) ≡ sum_by (amount_in (one_of i) (items_of b)) (searched_copies instance)) same heads
+        | inr other ↦ same-from a b (j + 1) items rest k (omega arith) (omega arith)
+      ]
+
+  same-counts : (a b : KnapNode) → chosen_of instance a ≡ chosen_of instance b → SameCounts instance a b
+  same-counts a b e k l = same-from a b 0 instance.items e k (omega arith) (omega arith)
 
   each-once : (m other : Member KnapNode) → Contains members m → Contains members other → chosen_of instance m.node ≡ chosen_of instance other.node → m ≡ other
   each-once m other stands also e =
-      let paths : m.path ≡ other.path = one_path instance m.path other.path (root_of instance) m.node other.node root (member-at m stands) (member-at other also) (same-items m.node other.node e) in
+      let paths : m.path ≡ other.path = one_path instance m.path other.path (root_of instance) m.node other.node root (member-at m stands) (member-at other also) (same-counts m.node other.node e) in
       let nodes : m.node ≡ other.node = same_Some m.node other.node (sym (member-at m stands) ∙ ap (node_at (children_of instance) (root_of instance)) paths ∙ member-at other also) in
       ap₂ (λ (p : List ℕ) (n : KnapNode). make p n) paths nodes
     where

@@ -2,51 +2,55 @@
 use Rattle.std.proofs.Common.{◌≡◌, ℕ, zero, suc, ◌+◌, ◌-◌, ◌<◌, ◌≤◌, ◌^◌, ◌∙◌, List, [], ◌∷◌, length, take, drop, get_or, ap, ap₂, subst, sym, inl, inr, arith}
 use Rattle.std.specs.List.{sum_by}
 use Rattle.std.proofs.lemmas.Bool.{cases_lt}
+use Rattle.std.proofs.lemmas.List.{drop_more}
 use Rattle.std.proofs.lemmas.List.Sums.{sum_by-cons}
-use Rattle.yew_knap.specs.declared.order.Numbered.{Numbered}
+use Rattle.yew_knap.specs.declared.copies.ItemCopy.{ItemCopy}
 use Rattle.yew_knap.specs.declared.places.Place.{Place}
+use Rattle.yew_knap.specs.Copies.{searched_copies}
+use Rattle.yew_knap.specs.CopyLaws.{index-at}
+use Rattle.yew_knap.specs.Instance.{Instance}
 use Rattle.yew_knap.specs.Nodes.{breaking_place, item_of}
 use Rattle.yew_knap.specs.Places.{place_of, end_place, all_places, weight_before}
 use Rattle.yew_knap.proofs.Breaking.{weight_before-more, stops, ends, from_front}
 
-abbrev pub profit_before : List Numbered → ℕ → ℕ
+abbrev pub profit_before : List ItemCopy → ℕ → ℕ
 profit_before items place = sum_by (λ item. item.profit) (take place items)
 
 -- the place of a number, and a blank one past the table
 abbrev pub place_at : List Place → ℕ → Place
-place_at places k = get_or places k (record { profit_before = 0; weight_before = 0; weight_after = 0; reciprocal = 0; profit = 0; weight = 0; index = 0; least_weight = 0 })
+place_at places k = get_or places k (record { profit_before = 0; weight_before = 0; weight_after = 0; reciprocal = 0; profit = 0; weight = 0; next_item = 0; least_weight = 0 })
 
-length-all_places : (profit weight : ℕ) (items : List Numbered) → length (all_places profit weight items) ≡ length items + 1
+length-all_places : (profit weight : ℕ) (items : List ItemCopy) → length (all_places profit weight items) ≡ length items + 1
 length-all_places profit weight [] = omega arith
 length-all_places profit weight (x ∷ xs) = let rest = length-all_places (profit + x.profit) (weight + x.weight) xs in omega (arith, rest)
 
-item-in : (profit weight : ℕ) (items : List Numbered) (k : ℕ) → k < length items → place_at (all_places profit weight items) k ≡ place_of (profit + profit_before items k) (weight + weight_before items k) (item_of items k) (drop (suc k) items)
+item-in : (profit weight : ℕ) (items : List ItemCopy) (k : ℕ) → k < length items → place_at (all_places profit weight items) k ≡ place_of (profit + profit_before items k) (weight + weight_before items k) (item_of items k) (drop (suc k) items)
 item-in profit weight [] k l = absurd (omega arith)
 item-in profit weight (x ∷ xs) zero l =
     let p : profit ≡ profit + profit_before (x ∷ xs) 0 = omega arith in
     let w : weight ≡ weight + weight_before (x ∷ xs) 0 = omega arith in
     ap₂ (λ a b. place_of a b x xs) p w
 item-in profit weight (x ∷ xs) (suc k) l =
-    let p_cons = sum_by-cons (λ (item : Numbered). item.profit) x (take k xs) in
-    let w_cons = sum_by-cons (λ (item : Numbered). item.weight) x (take k xs) in
+    let p_cons = sum_by-cons (λ (item : ItemCopy). item.profit) x (take k xs) in
+    let w_cons = sum_by-cons (λ (item : ItemCopy). item.weight) x (take k xs) in
     let p : profit + x.profit + profit_before xs k ≡ profit + profit_before (x ∷ xs) (suc k) = omega (arith, p_cons) in
     let w : weight + x.weight + weight_before xs k ≡ weight + weight_before (x ∷ xs) (suc k) = omega (arith, w_cons) in
     item-in (profit + x.profit) (weight + x.weight) xs k (omega arith) ∙ ap₂ (λ a b. place_of a b (item_of xs k) (drop (suc k) xs)) p w
 
-end-in : (profit weight : ℕ) (items : List Numbered) → place_at (all_places profit weight items) (length items) ≡ end_place (profit + profit_before items (length items)) (weight + weight_before items (length items))
+end-in : (profit weight : ℕ) (items : List ItemCopy) → place_at (all_places profit weight items) (length items) ≡ end_place (profit + profit_before items (length items)) (weight + weight_before items (length items))
 end-in profit weight [] =
     let p : profit ≡ profit + profit_before [] 0 = omega arith in
     let w : weight ≡ weight + weight_before [] 0 = omega arith in
     ap₂ end_place p w
 end-in profit weight (x ∷ xs) =
-    let p_cons = sum_by-cons (λ (item : Numbered). item.profit) x (take (length xs) xs) in
-    let w_cons = sum_by-cons (λ (item : Numbered). item.weight) x (take (length xs) xs) in
+    let p_cons = sum_by-cons (λ (item : ItemCopy). item.profit) x (take (length xs) xs) in
+    let w_cons = sum_by-cons (λ (item : ItemCopy). item.weight) x (take (length xs) xs) in
     let p : profit + x.profit + profit_before xs (length xs) ≡ profit + profit_before (x ∷ xs) (suc (length xs)) = omega (arith, p_cons) in
     let w : weight + x.weight + weight_before xs (length xs) ≡ weight + weight_before (x ∷ xs) (suc (length xs)) = omega (arith, w_cons) in
     end-in (profit + x.profit) (weight + x.weight) xs ∙ ap₂ end_place p w
 
 -- a slice that is the table of the places of a list
-module _ (items : List Numbered) (places : List Place) (are : places ≡ all_places 0 0 items) where
+module _ (items : List ItemCopy) (places : List Place) (are : places ≡ all_places 0 0 items) where
   pub length-places : length places ≡ length items + 1
   length-places = ap length are ∙ length-all_places 0 0 items
 
@@ -92,3 +96,9 @@ module _ (items : List Numbered) (places : List Place) (are : places ≡ all_pla
         | inl less ↦ let after = after-at k less in sym (from_front items room k within fits ∙ stops items room k less fits (omega (arith, after, heavy)))
         | inr most ↦ sym (from_front items room k within fits ∙ ends items (room - weight_before items k) k most)
       ]
+
+-- each copy of an instance knows its place
+pub index-here : (instance : Instance) (place : ℕ) → place < length (searched_copies instance) → (item_of (searched_copies instance) place).index ≡ place
+index-here instance place within =
+    index-at instance place (item_of (searched_copies instance) place) (drop (place + 1) (searched_copies instance))
+    (drop_more (searched_copies instance) place (record { profit = 0; weight = 0; item = 0; turn = 0; index = 0 }) within)

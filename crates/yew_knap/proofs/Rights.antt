@@ -10,7 +10,7 @@ use Rattle.yew_knap.specs.Instance.{Instance, IsWithinLimits}
 use Rattle.yew_knap.specs.Nodes.{chosen_of, worth_of, IsNode}
 use Rattle.yew_knap.specs.Packings.{profit_of, IsBestProfit}
 use Rattle.yew_knap.specs.Texts.{best_lines, near_lines, yes_lines, no_line, IsBestText, IsNearText, IsYesText, IsNoText}
-use Rattle.yew_knap.proofs.Amounts.{node-packed}
+use Rattle.yew_knap.proofs.Counts.{node-packed}
 use Rattle.yew_knap.proofs.Packs.{tree-packs}
 
 module _ (instance : Instance) (limits : IsWithinLimits instance) where

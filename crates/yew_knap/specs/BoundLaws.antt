@@ -12,23 +12,23 @@ use Rattle.yew_laws.specs.Tree.{node_at, IsBounded}
 use Rattle.yew_laws.proofs.Members.{AllByRecursion-weaker, AllByRecursion-both}
 use Rattle.yew_knap.specs.declared.item_sets.ItemSet.{ItemSet}
 use Rattle.yew_knap.specs.declared.nodes.KnapNode.{KnapNode}
-use Rattle.yew_knap.specs.declared.order.Numbered.{Numbered}
+use Rattle.yew_knap.specs.declared.copies.ItemCopy.{ItemCopy}
 use Rattle.yew_knap.specs.Instance.{Instance}
 use Rattle.yew_knap.specs.ItemSets.{has_item, with_item}
 use Rattle.yew_knap.specs.Lists.{AllByRecursion-all, AllByRecursion-take, sum_by-agree, sum_by-below, sum_by-none}
 use Rattle.yew_knap.specs.Nodes.{added, children_of, worth_of, dantzig, bound_of, amount_in, IsNode, items_of, opened}
 use Rattle.yew_knap.specs.NodeLaws.{IsOther, IsNext, others_before, has_added, child-at, added-sound}
-use Rattle.yew_knap.specs.OrderLaws.{NoWorse, FallsInValue, IsSmallNumbered, length-searched_order, searched_order-falls, searched_order-small}
-use Rattle.yew_knap.specs.SearchedOrder.{searched_order}
+use Rattle.yew_knap.specs.Copies.{searched_copies}
+use Rattle.yew_knap.specs.CopyLaws.{NoWorse, FallsInValue, IsSmallCopy, length-searched_copies, searched_copies-falls, searched_copies-small}
 
-abbrev profit_in : ItemSet → Numbered → ℕ
+abbrev profit_in : ItemSet → ItemCopy → ℕ
 profit_in items = amount_in (λ item. item.profit) items
 
-abbrev weight_in : ItemSet → Numbered → ℕ
+abbrev weight_in : ItemSet → ItemCopy → ℕ
 weight_in items = amount_in (λ item. item.weight) items
 
 -- a set among items of no more value than x has no more value than x
-dominated : (items : ItemSet) (x : Numbered) (ys : List Numbered) → AllByRecursion (NoWorse x) ys → sum_by (profit_in items) ys * x.weight ≤ x.profit * sum_by (weight_in items) ys
+dominated : (items : ItemSet) (x : ItemCopy) (ys : List ItemCopy) → AllByRecursion (NoWorse x) ys → sum_by (profit_in items) ys * x.weight ≤ x.profit * sum_by (weight_in items) ys
 dominated items x [] a = omega arith
 dominated items x (y ∷ ys) a =
     let p = sum_by-cons (profit_in items) y ys in
@@ -42,24 +42,24 @@ dominated items x (y ∷ ys) a =
     p w
 
 -- The first item that does not fit, with the profit of those before it and the room that they leave: Dantzig's argument.
-record Critical (items : ItemSet) (room : ℕ) (xs : List Numbered) : Type 0 where
-  pub item : Numbered
+record Critical (items : ItemSet) (room : ℕ) (xs : List ItemCopy) : Type 0 where
+  pub item : ItemCopy
   pub profit : ℕ
   pub left : ℕ
   pub too_heavy : left < item.weight
   pub bound : dantzig room xs ≡ profit + item.profit * left / item.weight
-  pub no_better : (y : Numbered) → AllByRecursion (NoWorse y) xs → NoWorse y item
+  pub no_better : (y : ItemCopy) → AllByRecursion (NoWorse y) xs → NoWorse y item
   pub argument : sum_by (profit_in items) xs * item.weight + item.profit * room ≤ profit * item.weight + item.profit * left + item.profit * sum_by (weight_in items) xs
 
 -- all items fit, or one is critical
-abbrev Greedy : ItemSet → ℕ → List Numbered → Type 0
+abbrev Greedy : ItemSet → ℕ → List ItemCopy → Type 0
 Greedy items room xs = (sum_by (profit_in items) xs ≤ dantzig room xs) ⊎ Critical items room xs
 
-pub dantzig-fits : (room : ℕ) (x : Numbered) (xs : List Numbered) → x.weight ≤ room → dantzig room (x ∷ xs) ≡ x.profit + dantzig (room - x.weight) xs
+pub dantzig-fits : (room : ℕ) (x : ItemCopy) (xs : List ItemCopy) → x.weight ≤ room → dantzig room (x ∷ xs) ≡ x.profit + dantzig (room - x.weight) xs
 dantzig-fits room x xs l =
     ap (λ b. if b then x.profit + dantzig (room - x.weight) xs else x.profit * room / x.weight) (le-leb x.weight room l)
 
-pub dantzig-stops : (room : ℕ) (x : Numbered) (xs : List Numbered) → room < x.weight → dantzig room (x ∷ xs) ≡ x.profit * room / x.weight
+pub dantzig-stops : (room : ℕ) (x : ItemCopy) (xs : List ItemCopy) → room < x.weight → dantzig room (x ∷ xs) ≡ x.profit * room / x.weight
 dantzig-stops room x xs l =
     ap (λ b. if b then x.profit + dantzig (room - x.weight) xs else x.profit * room / x.weight) (lt-leb x.weight room l)
 
@@ -70,11 +70,11 @@ argument-with gain profit heavy worth rest weight before left others h = omega a
 argument-without : (gain profit heavy worth rest weight before left others : ℕ) → worth * weight ≤ gain * heavy → profit * heavy + worth * rest ≤ before * heavy + worth * left + worth * others → profit * heavy + worth * (rest + weight) ≤ (gain + before) * heavy + worth * left + worth * others
 argument-without gain profit heavy worth rest weight before left others n h = omega arith
 
-amount_in-le : (amount : Numbered → ℕ) (items : ItemSet) (x : Numbered) → amount_in amount items x ≤ amount x
+amount_in-le : (amount : ItemCopy → ℕ) (items : ItemSet) (x : ItemCopy) → amount_in amount items x ≤ amount x
 amount_in-le amount items x =
     elim (has_item items x.index) as (λ b. (if b then amount x else 0) ≤ amount x) [ true ↦ omega arith | false ↦ omega arith ]
 
-critical-behind : (items : ItemSet) (room : ℕ) (x : Numbered) (xs : List Numbered) → x.weight ≤ room → AllByRecursion (NoWorse x) xs → Critical items (room - x.weight) xs → Critical items room (x ∷ xs)
+critical-behind : (items : ItemSet) (room : ℕ) (x : ItemCopy) (xs : List ItemCopy) → x.weight ≤ room → AllByRecursion (NoWorse x) xs → Critical items (room - x.weight) xs → Critical items room (x ∷ xs)
 critical-behind items room x xs l falls c = record {
   item = c.item;
   profit = x.profit + c.profit;
@@ -103,7 +103,7 @@ critical-behind items room x xs l falls c = record {
       p w;
 }
 
-greedy : (items : ItemSet) (room : ℕ) (xs : List Numbered) → FallsInValue xs → Greedy items room xs
+greedy : (items : ItemSet) (room : ℕ) (xs : List ItemCopy) → FallsInValue xs → Greedy items room xs
 greedy items room [] f = inl (omega arith)
 greedy items room (x ∷ xs) f =
     elim (cases_lt room x.weight) [
@@ -136,7 +136,7 @@ quotient profit before heavy q weighs h =
     ]
 
 -- Dantzig's theorem: no set of the items that fits in the room has more profit than the bound
-pub dantzig-bounds : (items : ItemSet) (room : ℕ) (xs : List Numbered) → FallsInValue xs → sum_by (weight_in items) xs ≤ room → sum_by (profit_in items) xs ≤ dantzig room xs
+pub dantzig-bounds : (items : ItemSet) (room : ℕ) (xs : List ItemCopy) → FallsInValue xs → sum_by (weight_in items) xs ≤ room → sum_by (profit_in items) xs ≤ dantzig room xs
 dantzig-bounds items room xs f fits =
     elim (greedy items room xs f) [
       | inl all ↦ all
@@ -148,16 +148,16 @@ dantzig-bounds items room xs f fits =
           rw c.bound most
     ]
 
-FallsInValue-drop : (k : ℕ) (xs : List Numbered) → FallsInValue xs → FallsInValue (drop k xs)
+FallsInValue-drop : (k : ℕ) (xs : List ItemCopy) → FallsInValue xs → FallsInValue (drop k xs)
 FallsInValue-drop zero xs f = f
 FallsInValue-drop (suc k) [] f = f
 FallsInValue-drop (suc k) (x ∷ xs) f = FallsInValue-drop k xs f.1
 
 -- the bound is at most the profit of all items
-dantzig-total : (room : ℕ) (xs : List Numbered) → dantzig room xs ≤ sum_by (λ item. item.profit) xs
+dantzig-total : (room : ℕ) (xs : List ItemCopy) → dantzig room xs ≤ sum_by (λ item. item.profit) xs
 dantzig-total room [] = omega arith
 dantzig-total room (x ∷ xs) =
-    let cons = sum_by-cons (λ (item : Numbered). item.profit) x xs in
+    let cons = sum_by-cons (λ (item : ItemCopy). item.profit) x xs in
     elim (cases_lt room x.weight) [
       | inl heavy ↦
           let e = dantzig-stops room x xs heavy in
@@ -173,10 +173,10 @@ dantzig-total room (x ∷ xs) =
     le_of_lt : {m n : ℕ} → m < n → m ≤ n
     le_of_lt h = omega arith
 
-total-small : (n : ℕ) (xs : List Numbered) → AllByRecursion (IsSmallNumbered n) xs → sum_by (λ item. item.profit) xs ≤ length xs * 2 ^ 31
+total-small : (n : ℕ) (xs : List ItemCopy) → AllByRecursion (IsSmallCopy n) xs → sum_by (λ item. item.profit) xs ≤ length xs * 2 ^ 31
 total-small n [] a = omega arith
 total-small n (x ∷ xs) a =
-    let cons = sum_by-cons (λ (item : Numbered). item.profit) x xs in
+    let cons = sum_by-cons (λ (item : ItemCopy). item.profit) x xs in
     let rest = total-small n xs a.1 in
     let own = a.0.1 in
     omega (arith, cons, rest, own)
@@ -185,16 +185,16 @@ module _ (instance : Instance) where
   -- a node at or below another has the same of the items before the other's next place
   pub record Grows (node below : KnapNode) : Type 0 where
     pub sound : IsNode instance below
-    pub agrees : AllByRecursion (λ item. has_item (items_of below) item.index ≡ has_item (items_of node) item.index) (take node.next (searched_order instance))
+    pub agrees : AllByRecursion (λ item. has_item (items_of below) item.index ≡ has_item (items_of node) item.index) (take node.next (searched_copies instance))
 
-  grows-child : (node below : KnapNode) → IsNode instance node → (place : ℕ) (item : Numbered) (after : List Numbered) → IsNext instance node place item after → Grows (added instance (opened node) place item) below → Grows node below
+  grows-child : (node below : KnapNode) → IsNode instance node → (place : ℕ) (item : ItemCopy) (after : List ItemCopy) → IsNext instance node place item after → Grows (added instance (opened node) place item) below → Grows node below
   grows-child node below sound place item after next grows = record {
     sound = grows.sound;
     agrees =
         AllByRecursion-weaker (λ y. (has_item (items_of below) y.index ≡ has_item (with_item (items_of node) item.index) y.index) × IsOther item.index y) (λ y. has_item (items_of below) y.index ≡ has_item (items_of node) y.index)
         (λ y both. both.0 ∙ has_added instance place item after next.at (items_of node) sound.size sound.limits y.index ∙ without (has_item (items_of node) y.index) (y.index == item.index) both.1)
-        (take node.next (searched_order instance))
-        (AllByRecursion-both (λ y. has_item (items_of below) y.index ≡ has_item (with_item (items_of node) item.index) y.index) (IsOther item.index) (take node.next (searched_order instance))
+        (take node.next (searched_copies instance))
+        (AllByRecursion-both (λ y. has_item (items_of below) y.index ≡ has_item (with_item (items_of node) item.index) y.index) (IsOther item.index) (take node.next (searched_copies instance))
         (earlier (place + 1) (let f = next.from in omega (arith, f)) (λ y. has_item (items_of below) y.index ≡ has_item (with_item (items_of node) item.index) y.index) grows.agrees)
         (earlier place next.from (IsOther item.index) (others_before instance place item after next.at)));
   }
@@ -202,16 +202,16 @@ module _ (instance : Instance) where
       without : (a b : Bool) → b ≡ false → (a || b) ≡ a
       without a b e = grind (arith, nat_tests)
 
-      earlier : (k : ℕ) → node.next ≤ k → (P : Numbered → Type 0) → AllByRecursion P (take k (searched_order instance)) → AllByRecursion P (take node.next (searched_order instance))
+      earlier : (k : ℕ) → node.next ≤ k → (P : ItemCopy → Type 0) → AllByRecursion P (take k (searched_copies instance)) → AllByRecursion P (take node.next (searched_copies instance))
       earlier k l P a =
-          subst (λ ys. AllByRecursion P ys) (take-take node.next k (searched_order instance) l) (AllByRecursion-take P node.next (take k (searched_order instance)) a)
+          subst (λ ys. AllByRecursion P ys) (take-take node.next k (searched_copies instance) l) (AllByRecursion-take P node.next (take k (searched_copies instance)) a)
 
   -- along a path sets grow
   pub grows-along : (path : List ℕ) (node below : KnapNode) → IsNode instance node → node_at (children_of instance) node path ≡ Some below → Grows node below
   grows-along [] node below sound e =
       subst (Grows node) (same_Some node below e) (record {
         sound = sound;
-        agrees = AllByRecursion-all (λ item. has_item (items_of node) item.index ≡ has_item (items_of node) item.index) (λ item. refl) (take node.next (searched_order instance));
+        agrees = AllByRecursion-all (λ item. has_item (items_of node) item.index ≡ has_item (items_of node) item.index) (λ item. refl) (take node.next (searched_copies instance));
       })
   grows-along (k ∷ ks) node below sound e =
       option_and_then_some (λ c. node_at (children_of instance) c ks) (slice_get (children_of instance node) k) below e
@@ -221,9 +221,9 @@ module _ (instance : Instance) where
       (subst (λ c. Grows c below) a.is (grows-along ks child below (added-sound instance node child sound a) rest)))
 
   -- what a set at or below a node has more than the node's own is of items from the node's next place on
-  amount-below : (node below : KnapNode) → IsNode instance node → Grows node below → (amount : Numbered → ℕ) → sum_by (amount_in amount (items_of below)) (searched_order instance) ≡ sum_by (amount_in amount (items_of node)) (searched_order instance) + sum_by (amount_in amount (items_of below)) (drop node.next (searched_order instance))
+  pub amount-below : (node below : KnapNode) → IsNode instance node → Grows node below → (amount : ItemCopy → ℕ) → sum_by (amount_in amount (items_of below)) (searched_copies instance) ≡ sum_by (amount_in amount (items_of node)) (searched_copies instance) + sum_by (amount_in amount (items_of below)) (drop node.next (searched_copies instance))
   amount-below node below sound grows amount =
-      let order = searched_order instance in
+      let order = searched_copies instance in
       let whole = sum_by-take-drop (amount_in amount (items_of below)) order node.next in
       let own = sum_by-take-drop (amount_in amount (items_of node)) order node.next in
       let none = sum_by-none (amount_in amount (items_of node)) (drop node.next order) (AllByRecursion-weaker (λ item. has_item (items_of node) item.index ≡ false) (λ item. amount_in amount (items_of node) item ≡ 0) (λ item e. ap (λ b. if b then amount item else 0) e) (drop node.next order) sound.none_later) in
@@ -238,17 +238,17 @@ module _ (instance : Instance) where
       let own_room = sound.room_is in
       let below_profit = grows.sound.profit_is in
       let below_room = grows.sound.room_is in
-      let most = dantzig-bounds (items_of below) node.room (drop node.next (searched_order instance)) (FallsInValue-drop node.next (searched_order instance) (searched_order-falls instance)) (omega (arith, weights, own_room, below_room)) in
+      let most = dantzig-bounds (items_of below) node.room (drop node.next (searched_copies instance)) (FallsInValue-drop node.next (searched_copies instance) (searched_copies-falls instance)) (omega (arith, weights, own_room, below_room)) in
       omega (arith, profits, own_profit, below_profit, most)
 
   bound-small : (node : KnapNode) → IsNode instance node → bound_of instance node < 2 ^ 40
   bound-small node sound =
-      let order = searched_order instance in
-      let few = sound.limits.few in
-      let long = length-searched_order instance in
+      let order = searched_copies instance in
+      let few = sound.limits.few_copies in
+      let long = length-searched_copies instance in
       let profit = sound.profit_is in
-      let all = total-small (length instance.items) order (searched_order-small instance sound.limits) in
-      let parts = sum_by-take-drop (λ (item : Numbered). item.profit) order node.next in
+      let all = total-small (length instance.items) order (searched_copies-small instance sound.limits) in
+      let parts = sum_by-take-drop (λ (item : ItemCopy). item.profit) order node.next in
       let own = sum_by-take-drop (amount_in (λ item. item.profit) (items_of node)) order node.next in
       let none = sum_by-none (amount_in (λ item. item.profit) (items_of node)) (drop node.next order) (AllByRecursion-weaker (λ item. has_item (items_of node) item.index ≡ false) (λ item. amount_in (λ i. i.profit) (items_of node) item ≡ 0) (λ item e. ap (λ b. if b then item.profit else 0) e) (drop node.next order) sound.none_later) in
       let less = sum_by-below (amount_in (λ item. item.profit) (items_of node)) (λ item. item.profit) (take node.next order) (AllByRecursion-all (λ item. amount_in (λ i. i.profit) (items_of node) item ≤ item.profit) (λ item. amount_in-le (λ i. i.profit) (items_of node) item) (take node.next order)) in

@@ -1,4 +1,4 @@
--- Sets of items as bits: bit k % 64 of word k / 64 says whether the item at place k of the file is in the set.
+-- Sets as bits: bit k % 64 of word k / 64 says whether the copy with the number k is in the set.
 use Rattle.std.specs.Prelude.{ℕ, ◌/◌, ◌%◌, ◌^◌, Bool, [], ◌∷◌, ◌==◌, bit_or, slice_index, slice_set}
 use Rattle.std.specs.Int.{bit_at}
 use Rattle.yew_knap.specs.declared.item_sets.ItemSet.{ItemSet}

@@ -1,5 +1,7 @@
 pub mod Answers
 pub mod BoundLaws
+pub mod Copies
+pub mod CopyLaws
 pub mod Files
 pub mod Instance
 pub mod ItemSetLaws
@@ -11,5 +13,6 @@ pub mod OrderLaws
 pub mod Packings
 pub mod Places
 pub mod Reading
+pub mod Rows
 pub mod SearchedOrder
 pub mod Texts

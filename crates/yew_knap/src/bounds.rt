@@ -4,20 +4,20 @@ ghost use Rattle.std.specs.Prelude.{◌≡◌, ◌+◌, ◌<◌, ◌≤◌, ◌^
 ghost use Rattle.yew_knap.specs.Instance.{IsWithinLimits};
 ghost use Rattle.yew_knap.specs.Nodes.{breaking_place, dantzig};
 ghost use Rattle.yew_knap.specs.Places.{weight_before};
-ghost use Rattle.yew_knap.specs.SearchedOrder.{searched_order};
+ghost use Rattle.yew_knap.specs.Copies.{searched_copies};
 
 use crate::knapsack::Knapsack;
 use crate::quotients::quotient;
 
 impl Knapsack {
-    /// A place in front of which all items fit within a room: `likely` where they do, and otherwise `sure`, where it is
+    /// A place in front of which all copies fit within a room: `likely` where they do, and otherwise `sure`, where it is
     /// known that they do.
     #[inline(always)]
     fn fitting_place(&self, likely: usize, sure: usize, room: u64) -> usize
-        requires sure { sure ≤ length (searched_order self.now) }
-        requires fit { weight_before (searched_order self.now) sure ≤ room }
-        ensures within { result ≤ length (searched_order self.now) }
-        ensures fit { weight_before (searched_order self.now) result ≤ room }
+        requires sure { sure ≤ length (searched_copies self.now) }
+        requires fit { weight_before (searched_copies self.now) sure ≤ room }
+        ensures within { result ≤ length (searched_copies self.now) }
+        ensures fit { weight_before (searched_copies self.now) result ≤ room }
     {
         let places = self.places();
         if likely < places.len() && places[likely].weight_before <= room {
@@ -26,15 +26,15 @@ impl Knapsack {
         sure
     }
 
-    /// The first place whose item does not fit where the items are taken in the searched order within a room, and the
-    /// end where all fit. The items in front of `sure` are known to fit; the search begins at `likely` where those in
+    /// The first place whose copy does not fit where the copies are taken in the searched order within a room, and the
+    /// end where all fit. The copies in front of `sure` are known to fit; the search begins at `likely` where those in
     /// front of that fit.
     #[inline(always)]
     pub(crate) fn find_breaking(&self, likely: usize, sure: usize, room: u64) -> usize
-        requires sure { sure ≤ length (searched_order self.now) }
-        requires fit { weight_before (searched_order self.now) sure ≤ room }
+        requires sure { sure ≤ length (searched_copies self.now) }
+        requires fit { weight_before (searched_copies self.now) sure ≤ room }
         requires room { room + 1 < 2 ^ 64 }
-        ensures { result ≡ breaking_place room 0 (searched_order self.now) }
+        ensures { result ≡ breaking_place room 0 (searched_copies self.now) }
     {
         let places = self.places();
         let mut place = self.fitting_place(likely, sure, room);
@@ -44,17 +44,17 @@ impl Knapsack {
         place
     }
 
-    /// The most profit that the items from a place on can add within a room, if parts of items could be taken: each
-    /// item while it fits, and then, of the first one that does not fit, which stands at `breaking`, the whole part of
-    /// its profit times the room left divided by its weight. The items that fit are summed by what stands in front of
+    /// The most profit that the copies from a place on can add within a room, if parts of them could be taken: each
+    /// copy while it fits, and then, of the first one that does not fit, which stands at `breaking`, the whole part of
+    /// its profit times the room left divided by its weight. The copies that fit are summed by what stands in front of
     /// both places.
     #[inline(always)]
     pub(crate) fn greedy_gain(&self, next: usize, breaking: usize, room: u64) -> u64
         requires limits { IsWithinLimits self.now }
-        requires next { next ≤ length (searched_order self.now) }
-        requires breaking { breaking ≡ breaking_place room next (drop next (searched_order self.now)) }
-        requires small { dantzig room (drop next (searched_order self.now)) < 2 ^ 64 }
-        ensures { result ≡ dantzig room (drop next (searched_order self.now)) }
+        requires next { next ≤ length (searched_copies self.now) }
+        requires breaking { breaking ≡ breaking_place room next (drop next (searched_copies self.now)) }
+        requires small { dantzig room (drop next (searched_copies self.now)) < 2 ^ 64 }
+        ensures { result ≡ dantzig room (drop next (searched_copies self.now)) }
     {
         let places = self.places();
         let first = &places[next];

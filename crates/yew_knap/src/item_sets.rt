@@ -1,8 +1,8 @@
-//! Sets of items, one bit an item.
+//! Sets of copies of items, one bit a copy.
 
 ghost use Rattle.std.specs.Prelude.{◌≡◌, ◌<◌, ℕ, bit_or, if◌then◌else◌};
 
-/// A set of items. An item is named by its place in the file, counted from 0 and below 256.
+/// A set of copies. A copy is named by its place in the searched order, counted from 0 and below 256.
 #[derive(Clone, Copy, Debug, PartialEq, Eq)]
 pub struct ItemSet {
     words: [u64; 4],
@@ -19,7 +19,7 @@ impl ItemSet {
         ItemSet { words: [0; 4] }
     }
 
-    /// Whether an item is in the set.
+    /// Whether a copy is in the set.
     #[inline(always)]
     pub fn has(&self, item: u32) -> bool
         requires { item < 256 }
@@ -28,7 +28,7 @@ impl ItemSet {
         self.words[(item / 64) as usize] >> (item % 64) & 1 == 1
     }
 
-    /// The set with one more item.
+    /// The set with one more copy.
     ///
     /// Each word is written as a value of its own: a store to one word of an array would be waited for where the whole array
     /// is read next, as it is for each child.

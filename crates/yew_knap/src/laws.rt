@@ -8,8 +8,8 @@ ghost use Rattle.yew_knap.specs.SearchedOrder.{searched_order, IsSearchedOrder};
 
 use crate::knapsack::Knapsack;
 
-/// The sets of the nodes are all sets that can be carried, each once. So the greatest worth is 1 more than the best
-/// profit, and a worth is reached exactly where some set's profit meets the target.
+/// The lists of the nodes' numbers of copies are all lists that can be carried, each once. So the greatest worth is 1 more
+/// than the best profit, and a worth is reached exactly where some list's profit meets the target.
 pub fn tree_packs(problem: &Knapsack)
     requires { IsWithinLimits problem.now }
     ensures { TreePacks problem.now }

@@ -1,34 +1,35 @@
-//! The places of the searched order, with what the search asks of each of them again and again.
+//! The places of the copies in the searched order, with what the search asks of each of them again and again.
 
-ghost use Rattle.std.specs.Prelude.{◌≡◌, ◌≤◌, length, IfOk};
-ghost use Rattle.yew_knap.specs.Places.{least_weight, end_place, all_places};
+ghost use Rattle.std.specs.Prelude.{◌≡◌, ◌<◌, ◌≤◌, length, IfOk};
+ghost use Rattle.std.specs.List.{AllByRecursion};
+ghost use Rattle.yew_knap.specs.Places.{least_weight, next_item, end_place, all_places};
 
-use crate::order::Numbered;
+use crate::copies::ItemCopy;
 use crate::quotients::reciprocal_of;
 use std::alloc::Global;
 use yew_laws::Memory;
 
-/// An item at its place of the searched order, or the end of that order, which has no profit and never fits.
+/// A copy at its place of the searched order, or the end of that order, which has no profit and never fits.
 #[derive(Clone, Copy, Debug, PartialEq, Eq)]
 pub struct Place {
-    /// The profit of all items in front of this one.
+    /// The profit of all copies in front of this one.
     pub profit_before: u64,
-    /// The weight of all items in front of this one.
+    /// The weight of all copies in front of this one.
     pub weight_before: u64,
-    /// The weight of all items up to this one; at the end 2^64 - 1.
+    /// The weight of all copies up to this one; at the end 2^64 - 1.
     pub weight_after: u64,
     /// The reciprocal of the weight.
     pub reciprocal: u64,
     pub profit: u32,
     pub weight: u32,
-    /// The item's place in the file, counted from 0.
-    pub index: u32,
-    /// The least weight of this item and of those behind it.
+    /// The place of the first copy of the next item, and the end where there is none.
+    pub next_item: u32,
+    /// The least weight of this copy and of those behind it.
     pub least_weight: u32,
 }
 
-/// The least of a weight and the weights of items.
-fn least_weight(weight: u32, items: &[Numbered]) -> u32
+/// The least of a weight and the weights of copies.
+fn least_weight(weight: u32, items: &[ItemCopy]) -> u32
     ensures { result ≡ least_weight weight items.now }
 {
     let mut least = weight;
@@ -40,7 +41,24 @@ fn least_weight(weight: u32, items: &[Numbered]) -> u32
     least
 }
 
-/// The end behind items of this profit and weight.
+/// The place of the first copy of another item among these, the first of which stands at `place`, and the place behind
+/// them where there is none.
+fn next_item(place: u32, items: &[ItemCopy]) -> u32
+    requires place { place ≤ 256 }
+    requires count { length items.now ≤ 256 }
+    ensures { result ≡ next_item place items.now }
+{
+    let mut next = place;
+    for item in items {
+        if item.turn == 0 {
+            return next;
+        }
+        next += 1;
+    }
+    next
+}
+
+/// The end behind copies of this profit and weight.
 fn end_place(profit: u64, weight: u64) -> Place
     ensures { result ≡ end_place profit weight }
 {
@@ -51,14 +69,15 @@ fn end_place(profit: u64, weight: u64) -> Place
         reciprocal: reciprocal_of(1),
         profit: 0,
         weight: 1,
-        index: 0,
+        next_item: 0,
         least_weight: 1,
     }
 }
 
-/// The places of items in this order, and their end.
-pub fn places_of(alloc: Global, items: &[Numbered]) -> Result<Vec<Place>, Memory>
-    requires { length items.now ≤ 256 }
+/// The places of copies in this order, and their end.
+pub fn places_of(alloc: Global, items: &[ItemCopy]) -> Result<Vec<Place>, Memory>
+    requires count { length items.now ≤ 256 }
+    requires indexes { AllByRecursion (λ item. item.index < 256) items.now }
     ensures { IfOk result (λ places. places.items ≡ all_places 0 0 items.now) }
 {
     let mut places = Vec::with_capacity(alloc, items.len() + 1)?;
@@ -73,7 +92,7 @@ pub fn places_of(alloc: Global, items: &[Numbered]) -> Result<Vec<Place>, Memory
             reciprocal: reciprocal_of(item.weight),
             profit: item.profit,
             weight: item.weight,
-            index: item.index,
+            next_item: next_item(item.index + 1, &items[place + 1..]),
             least_weight: least_weight(item.weight, &items[place + 1..]),
         })?;
         profit += item.profit as u64;

@@ -10,19 +10,19 @@ use yew_laws::{Memory, Problem};
 
 impl Knapsack {
     ghost use Rattle.yew_knap.specs.Nodes.{added, item_of, IsNode};
-    ghost use Rattle.yew_knap.specs.SearchedOrder.{searched_order};
+    ghost use Rattle.yew_knap.specs.Copies.{searched_copies};
 
-    /// The set with one more item, that at a place of the searched order, which fits.
+    /// The set with one more copy, that at a place of the searched order, which fits.
     #[inline(always)]
     fn with(&self, kids: &KnapKids, place: usize) -> KnapNode
-        requires within { place < length (searched_order self.now) }
-        requires fits { (item_of (searched_order self.now) place).weight ≤ kids.now.room }
-        requires sound { IsNode self.now (added self.now kids.now place (item_of (searched_order self.now) place)) }
-        ensures { result ≡ added self.now kids.now place (item_of (searched_order self.now) place) }
+        requires within { place < length (searched_copies self.now) }
+        requires fits { (item_of (searched_copies self.now) place).weight ≤ kids.now.room }
+        requires sound { IsNode self.now (added self.now kids.now place (item_of (searched_copies self.now) place)) }
+        ensures { result ≡ added self.now kids.now place (item_of (searched_copies self.now) place) }
     {
         let here = &self.places()[place];
         let next = place + 1;
-        // Together with all items in front of the place, so that the places tell which items fit.
+        // Together with all copies in front of the place, so that the places tell which of them fit.
         let room = here.weight_before + kids.room;
         KnapNode {
             profit: kids.profit + here.profit as u64,
@@ -30,7 +30,7 @@ impl Knapsack {
             next,
             breaking: self.find_breaking(kids.breaking, next, room),
             earlier: kids.chosen,
-            last: Some(here.index),
+            last: Some(place as u32),
         }
     }
 }
@@ -92,12 +92,12 @@ impl Problem for Knapsack {
     #[inline(always)]
     fn next(&self, _alloc: Global, kids: &mut KnapKids) -> Result<Option<KnapNode>, Memory> {
         let places = self.places();
-        let end = self.order().len();
+        let end = self.copies().len();
         for place in kids.next..end {
             let here = &places[place];
             if here.weight as u64 <= kids.room {
                 let node = self.with(kids, place);
-                kids.next = node.next;
+                kids.next = here.next_item as usize;
                 kids.breaking = node.breaking;
                 return Ok(Some(node));
             }

@@ -2,7 +2,6 @@ ghost use Rattle.std.specs.Prelude.{IfOk, IfSome};
 ghost use Rattle.std.specs.List.{AllByRecursion};
 ghost use Rattle.yew_knap.specs.Nodes.{root_of, remaining_of, IsNode};
 
-use crate::item_sets::ItemSet;
 use crate::{KnapKids, KnapNode, Knapsack, read};
 use std::alloc::Global;
 use std::test::Fail;
@@ -39,29 +38,44 @@ fn bound_at(alloc: Global, problem: &Knapsack, numbers: &[u32]) -> Result<Option
     }
 }
 
-/// The set of the node at a path.
-fn set_at(alloc: Global, problem: &Knapsack, numbers: &[u32]) -> Result<Option<ItemSet>, Memory>
+/// Whether the node at a path has these items, as its text lists them; where there is none the text is empty.
+fn has_items(
+    alloc: Global,
+    problem: &Knapsack,
+    numbers: &[u32],
+    items: &str,
+) -> Result<bool, Memory>
     requires { IsNode problem.now (root_of problem.now) }
 {
     match node_at(alloc, problem, numbers)? {
-        Some(node) => Ok(Some(node.items())),
-        None => Ok(None),
+        Some(node) => lists(alloc, problem, &node, items),
+        None => Ok(items.is_empty()),
     }
 }
 
-/// The set of the next child.
-fn next_set(
+/// Whether a node's text lists these items.
+fn lists(alloc: Global, problem: &Knapsack, node: &KnapNode, items: &str) -> Result<bool, Memory>
+    requires root { IsNode problem.now (root_of problem.now) }
+    requires node { IsNode problem.now node.now }
+{
+    let best = problem.best_text(alloc, problem.worth(node), node)?;
+    Ok(best.ends_with(items.as_bytes()))
+}
+
+/// Whether the next child has these items; where there is none they are empty.
+fn next_has(
     alloc: Global,
     problem: &Knapsack,
     kids: &mut KnapKids,
-) -> Result<Option<ItemSet>, Memory>
+    items: &str,
+) -> Result<bool, Memory>
     requires root { IsNode problem.now (root_of problem.now) }
     requires kids { AllByRecursion (IsNode problem.now) (remaining_of problem.now kids.old) }
     ensures { AllByRecursion (IsNode problem.now) (remaining_of problem.now kids.new) }
 {
     match problem.next(alloc, kids) {
-        Ok(Some(node)) => Ok(Some(node.items())),
-        Ok(None) => Ok(None),
+        Ok(Some(node)) => lists(alloc, problem, &node, items),
+        Ok(None) => Ok(items.is_empty()),
         Err(e) => Err(e),
     }
 }
@@ -99,32 +113,50 @@ fn equal_items(alloc: Global, count: u64, capacity: u64, profit: u64) -> Result<
 fn gives_the_children_in_order(rt: HostRuntime) -> Result<(), Fail> {
     let problem = read(rt.alloc(), FOUR)?;
     let root = problem.root(rt.alloc())?;
-    assert_eq!(rt; root.items(), ItemSet::empty());
-    let empty = ItemSet::empty();
-    assert_eq!(rt;
-        set_at(rt.alloc(), &problem, &[0, 0])?,
-        Some(empty.with(3).with(1))
-    );
-    assert_eq!(rt; set_at(rt.alloc(), &problem, &[0, 3])?, None);
+    assert!(rt; lists(rt.alloc(), &problem, &root, "items\n")?);
+    assert!(rt; has_items(rt.alloc(), &problem, &[0, 0], "items 2 4\n")?);
+    assert!(rt; has_items(rt.alloc(), &problem, &[0, 3], "")?);
     let mut kids = problem.open(rt.alloc(), root)?;
-    assert_eq!(rt;
-        next_set(rt.alloc(), &problem, &mut kids)?,
-        Some(empty.with(3))
-    );
-    assert_eq!(rt;
-        next_set(rt.alloc(), &problem, &mut kids)?,
-        Some(empty.with(1))
-    );
-    assert_eq!(rt;
-        next_set(rt.alloc(), &problem, &mut kids)?,
-        Some(empty.with(2))
-    );
-    assert_eq!(rt;
-        next_set(rt.alloc(), &problem, &mut kids)?,
-        Some(empty.with(0))
-    );
-    assert_eq!(rt; next_set(rt.alloc(), &problem, &mut kids)?, None);
-    assert_eq!(rt; next_set(rt.alloc(), &problem, &mut kids)?, None);
+    assert!(rt; next_has(rt.alloc(), &problem, &mut kids, "items 4\n")?);
+    assert!(rt; next_has(rt.alloc(), &problem, &mut kids, "items 2\n")?);
+    assert!(rt; next_has(rt.alloc(), &problem, &mut kids, "items 3\n")?);
+    assert!(rt; next_has(rt.alloc(), &problem, &mut kids, "items 1\n")?);
+    assert!(rt; next_has(rt.alloc(), &problem, &mut kids, "")?);
+    assert!(rt; next_has(rt.alloc(), &problem, &mut kids, "")?);
+    Ok(())
+}
+
+/// Of two items there are copies; the second has more profit for its weight, and is tried first.
+const COPIES: &[u8] = b"knapsack 2\n2 10\n5 3 2\n4 2 3\n";
+
+#[test]
+fn adds_copies_in_order(rt: HostRuntime) -> Result<(), Fail> {
+    let problem = read(rt.alloc(), COPIES)?;
+    let root = problem.root(rt.alloc())?;
+    let mut kids = problem.open(rt.alloc(), root)?;
+    assert!(rt; next_has(rt.alloc(), &problem, &mut kids, "items 2\n")?);
+    assert!(rt; next_has(rt.alloc(), &problem, &mut kids, "items 1\n")?);
+    assert!(rt; next_has(rt.alloc(), &problem, &mut kids, "")?);
+    assert!(rt; next_has(rt.alloc(), &problem, &mut kids, "")?);
+    for (path, items) in [
+        ([0u32].as_slice(), "items 2\n"),
+        ([0, 0].as_slice(), "items 2 2\n"),
+        ([0, 1].as_slice(), "items 1 2\n"),
+        ([0, 2].as_slice(), ""),
+        ([0, 0, 0].as_slice(), "items 2 2 2\n"),
+        ([0, 0, 0, 0].as_slice(), "items 1 2 2 2\n"),
+        ([0, 0, 0, 0, 0].as_slice(), ""),
+        ([0, 0, 1, 0].as_slice(), "items 1 1 2 2\n"),
+        ([1, 0].as_slice(), "items 1 1\n"),
+        ([1, 1].as_slice(), ""),
+        ([1, 0, 0].as_slice(), ""),
+    ] {
+        assert!(rt; has_items(rt.alloc(), &problem, path, items)?, "{items}");
+    }
+    // Three times 4 for 6, and of the room 4 that is left 5 for 3 and a third of 5.
+    assert_eq!(rt; bound_at(rt.alloc(), &problem, &[])?, Some(12 + 5 + 1 + 1));
+    assert_eq!(rt; bound_at(rt.alloc(), &problem, &[0, 1])?, Some(9 + 5 + 1));
+    assert_eq!(rt; bound_at(rt.alloc(), &problem, &[1])?, Some(5 + 5 + 1));
     Ok(())
 }
 
@@ -179,12 +211,11 @@ fn spells_answers(rt: HostRuntime) -> Result<(), Fail> {
 #[test]
 fn tries_weightless_items_first(rt: HostRuntime) -> Result<(), Fail> {
     let problem = read(rt.alloc(), b"2 0\n7 3\n5 0\n")?;
-    let empty = ItemSet::empty();
-    assert_eq!(rt; set_at(rt.alloc(), &problem, &[0])?, Some(empty.with(1)));
-    assert_eq!(rt; set_at(rt.alloc(), &problem, &[1])?, None);
+    assert!(rt; has_items(rt.alloc(), &problem, &[0], "items 2\n")?);
+    assert!(rt; has_items(rt.alloc(), &problem, &[1], "")?);
     let equal = read(rt.alloc(), b"5 10\n10 5\n40 4\n30 6\n50 3\n40 4\n")?;
-    assert_eq!(rt; set_at(rt.alloc(), &equal, &[1])?, Some(empty.with(1)));
-    assert_eq!(rt; set_at(rt.alloc(), &equal, &[2])?, Some(empty.with(4)));
+    assert!(rt; has_items(rt.alloc(), &equal, &[1], "items 2\n")?);
+    assert!(rt; has_items(rt.alloc(), &equal, &[2], "items 5\n")?);
     Ok(())
 }
 
@@ -194,6 +225,9 @@ fn reads_files(rt: HostRuntime) -> Result<(), Fail> {
         b"4 10\n10 5\n40 4\n30 6\n50 3".as_slice(),
         b"4 10\r\n10 5\r\n40 4\r\n30 6\r\n50 3\r\n".as_slice(),
         b"\t 0004 010 10 5 40 004 30 6\n\n50 3 ".as_slice(),
+        b"knapsack 2\n4 10\n10 5 1\n40 4 1\n30 6 1\n50 3 1\n".as_slice(),
+        b"knapsack\r\n02\r\n4 10 10 5 1 40 4 1 30 6\r\n1 50 3 1".as_slice(),
+        b"knapsack 2 5 10 99 1 0 10 5 1 40 4 1 30 6 1 50 3 1".as_slice(),
     ] {
         let problem = read(rt.alloc(), bytes)?;
         assert_eq!(rt; bound_at(rt.alloc(), &problem, &[])?, Some(106));
@@ -222,6 +256,29 @@ fn refuses_files(rt: HostRuntime) -> Result<(), Fail> {
         ),
         (b"4 10\n10 -5\n".as_slice(), TextKind::NotNumber, 2),
         (b"9223372036854775808 5\n".as_slice(), TextKind::TooBig, 1),
+        (b"knapsack\n".as_slice(), TextKind::EndsEarly, 2),
+        (b"knapsack".as_slice(), TextKind::EndsEarly, 1),
+        (b"knapsack 3\n".as_slice(), TextKind::BadLine, 1),
+        (b"knapsack\n\n1 x\n".as_slice(), TextKind::BadLine, 3),
+        (b"knapsack two\n".as_slice(), TextKind::NotNumber, 1),
+        (
+            b"knapsack 9223372036854775808".as_slice(),
+            TextKind::TooBig,
+            1,
+        ),
+        (b"Knapsack 2\n0 0\n".as_slice(), TextKind::NotNumber, 1),
+        (b"0 5\nknapsack\n".as_slice(), TextKind::Surplus, 2),
+        (b"knapsack 2\n1 5\n3 2\n".as_slice(), TextKind::EndsEarly, 4),
+        (
+            b"knapsack 2\n1 5\n3 2 1\n7".as_slice(),
+            TextKind::Surplus,
+            4,
+        ),
+        (
+            b"knapsack 2\n1 5\n3 2 one\n".as_slice(),
+            TextKind::NotNumber,
+            3,
+        ),
         (
             b"9223372036854775807 5\n".as_slice(),
             TextKind::EndsEarly,
@@ -254,8 +311,44 @@ fn refuses_files(rt: HostRuntime) -> Result<(), Fail> {
             1099511627776,
             1099511627775,
         ),
+        (b"knapsack 2\n2 5\n1 1 200\n1 1 57\n".as_slice(), 257, 256),
+        (
+            b"knapsack 2\n2 5\n1 1 9223372036854775807\n1 2147483648 1\n".as_slice(),
+            9223372036854775807,
+            256,
+        ),
+        (
+            b"knapsack 2\n2 5\n1 1 256\n1 1 9223372036854775807\n".as_slice(),
+            9223372036854776063,
+            256,
+        ),
+        (
+            b"knapsack 2\n1 5\n1 2147483648 257\n".as_slice(),
+            2147483648,
+            2147483647,
+        ),
     ] {
         assert_eq!(rt; past_limit(rt.alloc(), bytes), Some((number, limit)));
+    }
+    Ok(())
+}
+
+#[test]
+fn spells_problems(rt: HostRuntime) -> Result<(), Fail> {
+    for (bytes, text) in [
+        (b"1 5\n3 2\n".as_slice(), "knapsack 2\n1 5\n3 2 1\n"),
+        (b"0 5\n".as_slice(), "knapsack 2\n0 5\n"),
+        (COPIES, "knapsack 2\n2 10\n5 3 2\n4 2 3\n"),
+        (
+            b"knapsack 2 1 7 008 0 00".as_slice(),
+            "knapsack 2\n1 7\n8 0 0\n",
+        ),
+    ] {
+        let problem = read(rt.alloc(), bytes)?;
+        let once = problem.file_text()?;
+        assert_eq!(rt; once.as_slice(), text.as_bytes());
+        let again = read(rt.alloc(), once.as_slice())?;
+        assert_eq!(rt; again.file_text()?.as_slice(), text.as_bytes());
     }
     Ok(())
 }

@@ -13,10 +13,10 @@ use Rattle.yew_text.specs.Numbers.{greatest, IsNumber}
 use Rattle.yew_lad.specs.Digraphs.{Digraph, is_arc}
 use Rattle.yew_lad.specs.Files.{vertex_numbers, graph_numbers, AreVertices, digraph_of}
 use Rattle.yew_make.specs.Graphs.{is_joined, are_joined, successors_of, graph_of, made_graph, made_digraph, graph_rows}
-use Rattle.yew_make.specs.Rows.{row_lines, row_numbers}
+use Rattle.yew_knap.specs.Rows.{row_lines, row_numbers}
 use Rattle.yew_make.specs.Laws.{MadeGraph}
 use Rattle.yew_make.proofs.Ranges.{map-agree, filter-agree}
-use Rattle.yew_make.proofs.NumberWords.{AllFit, rows-words}
+use Rattle.yew_knap.proofs.NumberWords.{AllFit, rows-words}
 use Rattle.yew_make.proofs.KnapsackFiles.{map-all, map-all_of, all-weaker}
 use Rattle.yew_make.proofs.Pairs.{are_joined-first, are_joined-second, are_joined-none}
 

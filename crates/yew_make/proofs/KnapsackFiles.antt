@@ -1,5 +1,5 @@
 -- A made knapsack is a knapsack file within its limits.
-use Rattle.std.proofs.Common.{◌≡◌, ℕ, ◌+◌, ◌*◌, ◌≤◌, List, [], ◌∷◌, length, map, ap, subst, arith}
+use Rattle.std.proofs.Common.{◌≡◌, ℕ, ◌+◌, ◌*◌, ◌≤◌, List, [], ◌∷◌, length, map, refl, ap, subst, arith}
 use Rattle.std.specs.Prelude.{sum_by}
 use Rattle.std.specs.List.{AllZip, AllByRecursion, range_with_len}
 use Rattle.std.proofs.lemmas.List.Folds.{flat_map-map}
@@ -8,13 +8,15 @@ use Rattle.std.proofs.lemmas.List.Sums.{sum_by-cons}
 use Rattle.yew_text.specs.Words.{words_from}
 use Rattle.yew_text.specs.Numbers.{IsNumber}
 use Rattle.yew_knap.specs.declared.knapsack.Item.{Item}
-use Rattle.yew_knap.specs.Instance.{Instance, IsSmallItem}
-use Rattle.yew_knap.specs.Files.{item_numbers, instance_numbers}
+use Rattle.yew_knap.specs.Instance.{Instance, IsSmallItem, copies_in}
+use Rattle.yew_knap.specs.declared.form.Form.TheVariants.{Pairs}
+use Rattle.yew_knap.specs.Files.{item_numbers, instance_numbers, IsOfForm}
 use Rattle.yew_make.specs.Draws.{first_state, word_from, weight_of}
 use Rattle.yew_make.specs.Knapsacks.{item_from, made_items, made_knapsack, half_weight, knapsack_rows}
-use Rattle.yew_make.specs.Rows.{row_lines, row_numbers}
+use Rattle.yew_knap.specs.Rows.{row_lines, row_numbers}
 use Rattle.yew_make.specs.Laws.{IsWeight, HasWeights, MadeKnapsack}
-use Rattle.yew_make.proofs.NumberWords.{AllFit, rows-words}
+use Rattle.yew_knap.proofs.FileGrammar.{pairs-file}
+use Rattle.yew_knap.proofs.NumberWords.{AllFit, rows-words}
 
 pub weight-range : (word : ℕ) → IsWeight (weight_of word)
 weight-range word = (omega arith, omega arith)
@@ -45,22 +47,38 @@ total-light (item ∷ items) a =
     let own = a.0.1.1 in
     omega (arith, cons, rest, own)
 
+-- of single items there are as many copies as items
+single-copies : (items : List Item) → AllByRecursion (IsOfForm Pairs) items → copies_in items ≡ length items
+single-copies [] a = refl
+single-copies (item ∷ items) a =
+    let cons = sum_by-cons (λ (i : Item). i.copies) item items in
+    let rest = single-copies items a.1 in
+    let own : item.copies ≡ 1 = a.0 in
+    omega (arith, cons, rest, own)
+
 rows-fit : (instance : Instance) → length instance.items ≤ 256 → instance.capacity ≤ 128000 → AllByRecursion HasWeights instance.items → AllByRecursion AllFit (knapsack_rows instance)
 rows-fit instance few light weights =
-    ((omega arith, (omega arith, tt)), map-all_of HasWeights AllFit item_numbers instance.items (λ item w. (let high = w.0.1 in omega (arith, high), (let high = w.1.1 in omega (arith, high), tt))) weights)
+    ((omega arith, (omega arith, tt)), map-all_of HasWeights AllFit (item_numbers Pairs) instance.items (λ item w. (let high = w.0.1 in omega (arith, high), (let high = w.1.1 in omega (arith, high), tt))) weights)
 
 pub made_knapsack_law : (seed size : ℕ) → size ≤ 256 → MadeKnapsack seed size
 made_knapsack_law seed size small =
     let instance = made_knapsack seed size in
     let count = length-map-range_with_len (item_from (first_state seed)) 0 size in
     let weights = item-weights seed size in
+    let single = map-all (IsOfForm Pairs) (item_from (first_state seed)) (range_with_len 0 size) (λ i. refl) in
     let total = total-light (made_items seed size) weights in
     let light : half_weight (made_items seed size) ≤ 128000 = omega (arith, total, count) in
-    let numbers : row_numbers (knapsack_rows instance) ≡ instance_numbers instance = ap (λ (ns : List ℕ). length instance.items ∷ instance.capacity ∷ ns) (flat_map-map (λ (row : List ℕ). row) item_numbers instance.items) in
+    let numbers : row_numbers (knapsack_rows instance) ≡ instance_numbers Pairs instance = ap (λ (ns : List ℕ). length instance.items ∷ instance.capacity ∷ ns) (flat_map-map (λ (row : List ℕ). row) (item_numbers Pairs) instance.items) in
     record {
-      file = subst (λ (ns : List ℕ). AllZip IsNumber (words_from 1 (row_lines (knapsack_rows instance))) ns) numbers (rows-words (knapsack_rows instance) 1 (rows-fit instance (omega (arith, count)) light weights));
+      file =
+          pairs-file (words_from 1 (row_lines (knapsack_rows instance))) instance
+          (record {
+            numbers = subst (λ (ns : List ℕ). AllZip IsNumber (words_from 1 (row_lines (knapsack_rows instance))) ns) numbers (rows-words (knapsack_rows instance) 1 (rows-fit instance (omega (arith, count)) light weights));
+            of_form = single;
+          });
       limits = record {
         few = omega (arith, count);
+        few_copies = omega (arith, count, single-copies (made_items seed size) single);
         light = omega (arith, light);
         small = all-weaker HasWeights IsSmallItem (made_items seed size) (λ item w. (let high = w.0.1 in omega (arith, high), let high = w.1.1 in omega (arith, high))) weights;
       };

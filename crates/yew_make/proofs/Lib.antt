@@ -5,7 +5,6 @@ pub mod TourHeads
 pub mod Triangles
 pub mod Items
 pub mod Pairs
-pub mod NumberWords
 pub mod KnapsackFiles
 pub mod GraphFiles
 pub mod TourFields

@@ -7,7 +7,7 @@ use Rattle.std.proofs.lemmas.List.FromFn.{length-map-range_with_len, map-range_w
 use Rattle.std.proofs.lemmas.List.{append-nil}
 use Rattle.yew_lad.specs.Files.{vertex_numbers}
 use Rattle.yew_make.specs.Draws.{state_after, word_of, word_from}
-use Rattle.yew_make.specs.Rows.{row_line, row_lines}
+use Rattle.yew_knap.specs.Rows.{row_line, row_lines}
 use Rattle.yew_make.specs.Pairs.{pairs_before, pair_place}
 use Rattle.yew_make.specs.Graphs.{joins, kept, are_joined, successors_of, graph_of, graph_from, graph_text}
 use Rattle.yew_make.proofs.Ranges.{filter-agree, map-agree}

@@ -4,7 +4,7 @@ use Rattle.std.proofs.lemmas.List.{append-nil, flat_map_more}
 use Rattle.std.proofs.lemmas.List.FromFn.{map-range_with_len_more}
 use Rattle.yew_lines.specs.Spelling.{spaced}
 use Rattle.yew_make.specs.Draws.{state_after, word_of, weight_of, weight_from, weights_from}
-use Rattle.yew_make.specs.Rows.{spaced_apart, row_line, row_lines}
+use Rattle.yew_knap.specs.Rows.{spaced_apart, row_line, row_lines}
 use Rattle.yew_make.proofs.Generator.{state_after-none}
 
 -- the first number of a row, and one more

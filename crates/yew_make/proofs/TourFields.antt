@@ -18,7 +18,7 @@ use Rattle.yew_tsp.specs.Files.{Says}
 use Rattle.yew_tsp.specs.Headers.{AreEntries, Header, HasHeader}
 use Rattle.yew_tsp.specs.Keys.{is_number}
 use Rattle.yew_make.specs.Tours.{tour_head}
-use Rattle.yew_make.proofs.NumberWords.{digits_of}
+use Rattle.yew_knap.proofs.NumberWords.{digits_of}
 
 -- ---- its fields
 

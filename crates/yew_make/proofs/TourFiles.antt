@@ -18,14 +18,14 @@ use Rattle.yew_text.proofs.Splitting.{word_laws}
 use Rattle.yew_tsp.specs.Files.{HasContents, IsTourFile, number_limits, HasNonePast, FileLaws}
 use Rattle.yew_tsp.specs.Matrices.{ends_matrix, is_ending, before_ending}
 use Rattle.yew_make.specs.Draws.{first_state, word_from, weight_from, weights_from, weight, weights}
-use Rattle.yew_make.specs.Rows.{row_numbers}
+use Rattle.yew_knap.specs.Rows.{row_numbers}
 use Rattle.yew_make.specs.Pairs.{pairs, pairs_before, place_of}
 use Rattle.yew_make.specs.Tours.{triangle_row, made_triangle, made_weights, made_contents, made_tours, matrix_text}
 use Rattle.yew_make.specs.Texts.{made_text}
 use Rattle.yew_make.specs.Laws.{IsWeight, MadeTour}
 use Rattle.yew_make.proofs.Ranges.{range_with_len-more, range_with_len-append}
 use Rattle.yew_make.proofs.Triangles.{pairs_before-none, pairs_before-more, pairs_before-all, pairs_in_order}
-use Rattle.yew_make.proofs.NumberWords.{Spells, Reads, AllFit, reads-rows}
+use Rattle.yew_knap.proofs.NumberWords.{Spells, Reads, AllFit, reads-rows}
 use Rattle.yew_make.proofs.KnapsackFiles.{weight-range, map-all}
 use Rattle.yew_make.proofs.TourFields.{made_header, made_header-has, made_header-says}
 

@@ -7,7 +7,7 @@ use Rattle.std.proofs.lemmas.Simd.{map-map}
 use Rattle.std.proofs.lemmas.List.{append-nil, map-append}
 use Rattle.std.proofs.lemmas.List.FromFn.{map-range_with_len_more}
 use Rattle.yew_make.specs.Draws.{state_after, weights_from}
-use Rattle.yew_make.specs.Rows.{row_line, row_lines}
+use Rattle.yew_knap.specs.Rows.{row_line, row_lines}
 use Rattle.yew_make.specs.Pairs.{pairs_of, pairs_before, pair_place, place_of, AreInOrder}
 use Rattle.yew_make.specs.Tours.{triangle_row}
 use Rattle.yew_make.proofs.Generator.{state_after-add, weights_from-after}

@@ -4,7 +4,7 @@ use Rattle.std.specs.List.{range_with_len}
 use Rattle.yew_lad.specs.Digraphs.{Digraph}
 use Rattle.yew_lad.specs.Files.{vertex_numbers}
 use Rattle.yew_make.specs.Draws.{first_state, word_from}
-use Rattle.yew_make.specs.Rows.{row_lines}
+use Rattle.yew_knap.specs.Rows.{row_lines}
 use Rattle.yew_make.specs.Pairs.{pair_place}
 
 -- whether a drawn word joins its pair

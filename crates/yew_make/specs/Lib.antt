@@ -1,5 +1,4 @@
 pub mod Draws
-pub mod Rows
 pub mod Knapsacks
 pub mod Pairs
 pub mod Tours

@@ -7,7 +7,7 @@ use Rattle.yew_tsp.specs.Instance.{Instance}
 use Rattle.yew_tsp.specs.Files.{Contents, instance_of}
 use Rattle.yew_make.specs.Draws.{first_state, weights_from}
 use Rattle.yew_make.specs.Pairs.{pairs_before}
-use Rattle.yew_make.specs.Rows.{row_lines, row_numbers}
+use Rattle.yew_knap.specs.Rows.{row_lines, row_numbers}
 
 -- row u of the triangle above the diagonal, counted from 0: a weight for each pair of u with a number above it
 abbrev pub triangle_row : ℕ → ℕ → ℕ → List ℕ

@@ -4,7 +4,7 @@ ghost use Rattle.std.specs.Prelude.{◌≡◌, ◌++◌, ◌≤◌, ◌<◌, len
 ghost use Rattle.std.specs.List.{range_with_len};
 ghost use Rattle.yew_lad.specs.Files.{vertex_numbers};
 ghost use Rattle.yew_make.specs.Draws.{word_from};
-ghost use Rattle.yew_make.specs.Rows.{row_line, row_lines};
+ghost use Rattle.yew_knap.specs.Rows.{row_line, row_lines};
 ghost use Rattle.yew_make.specs.Pairs.{pairs_before, pair_place};
 ghost use Rattle.yew_make.specs.Graphs.{joins, kept, are_joined, successors_of, graph_of, graph_from, graph_text};
 

@@ -2,7 +2,8 @@
 
 ghost use Rattle.std.specs.Prelude.{◌≡◌, ◌++◌, ◌/◌, ◌≤◌, ◌*◌, ◌∷◌, [], length, map, sum_by, IfOk, OnOk};
 ghost use Rattle.yew_make.specs.Knapsacks.{item_of, items_from, instance_of, knapsack_text};
-ghost use Rattle.yew_make.specs.Rows.{row_line, row_lines};
+ghost use Rattle.yew_knap.specs.Rows.{row_line, row_lines};
+ghost use Rattle.yew_knap.specs.declared.form.Form.TheVariants.{Pairs};
 ghost use Rattle.yew_knap.specs.Files.{item_numbers};
 
 use crate::draws::Draws;
@@ -49,7 +50,7 @@ fn push_pair(out: &mut Vec<u8>, first: u64, second: u64) -> Result<(), Memory>
 
 /// Appends a line for each item, of its profit and its weight.
 fn push_items(out: &mut Vec<u8>, items: &[MadeItem]) -> Result<(), Memory>
-    ensures { OnOk result (out.new.items ≡ out.old.items ++ row_lines (map item_numbers (map item_of items.now))) }
+    ensures { OnOk result (out.new.items ≡ out.old.items ++ row_lines (map (item_numbers Pairs) (map item_of items.now))) }
 {
     for item in items {
         push_pair(out, item.profit as u64, item.weight as u64)?;

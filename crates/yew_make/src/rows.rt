@@ -2,7 +2,7 @@
 
 ghost use Rattle.std.specs.Prelude.{◌≡◌, ◌++◌, ◌≤◌, OnOk};
 ghost use Rattle.yew_make.specs.Draws.{state_after, weights_from};
-ghost use Rattle.yew_make.specs.Rows.{spaced_apart, row_line};
+ghost use Rattle.yew_knap.specs.Rows.{spaced_apart, row_line};
 
 use crate::draws::Draws;
 use yew_laws::Memory;

@@ -1,7 +1,7 @@
 //! Tour instances: a file of TSPLIB 95 (Reinelt 1995) with the weights above the diagonal.
 
 ghost use Rattle.std.specs.Prelude.{◌≡◌, ◌++◌, ◌≤◌, OnOk};
-ghost use Rattle.yew_make.specs.Rows.{row_lines};
+ghost use Rattle.yew_knap.specs.Rows.{row_lines};
 ghost use Rattle.yew_make.specs.Tours.{triangle_from, tour_head, tour_text};
 
 use crate::draws::Draws;

@@ -2,7 +2,7 @@
 use Rattle.std.specs.Prelude.{◌≡◌, ℕ, ◌+◌, ◌-◌, ◌≤◌, ◌^◌, Bool, true, List, [], ◌∷◌, ◌++◌, max, sum_by, ◌==◌, IsTrue, if◌then◌else◌}
 use Rattle.yew_laws.specs.SearchTree.{SearchTree}
 use Rattle.yew_span.specs.Growth.{span}
-use Rattle.yew_span.specs.Span.{IsSpan}
+use Rattle.yew_span.specs.Span.{IsSpan, is_symmetric}
 use Rattle.yew_tsp.specs.declared.nodes.TourNode.{TourNode}
 use Rattle.yew_tsp.specs.Answers.{tours_tree}
 use Rattle.yew_tsp.specs.Instance.{Instance}
@@ -32,6 +32,10 @@ spanned_bound symmetric instance node = if symmetric then bound_with instance no
 -- the tree of the tours, with that bound
 abbrev pub spanned_tree : Bool → Instance → SearchTree TourNode
 spanned_tree symmetric instance = record (tours_tree instance) { bound = spanned_bound symmetric instance }
+
+-- the one that is searched of an instance
+abbrev pub span_tree : Instance → SearchTree TourNode
+span_tree instance = spanned_tree (is_symmetric instance) instance
 
 -- The bound is 2^37 less the length so far and less the greater of the inner bound's rest and the least weight that joins what is still
 -- to be joined.

@@ -8,3 +8,4 @@ pub mod Span
 pub mod SpanLaws
 pub mod SpannedLaws
 pub mod Stages
+pub mod SymmetryLaws

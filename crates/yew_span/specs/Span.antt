@@ -1,12 +1,18 @@
 -- The least weight that joins a set of cities: what a least spanning tree weighs.
 use Rattle.std.specs.Prelude.{◌≡◌, ℕ, ◌≤◌, Bool, ◌&&◌, ◌||◌, ◌==◌, List, [], ◌∷◌, sum_by, IsTrue}
-use Rattle.std.specs.List.{AllByRecursion, list_any}
+use Rattle.std.specs.List.{AllByRecursion, list_any, list_all, range_with_len}
 use Rattle.yew_laws.specs.Sets.{contains}
 use Rattle.yew_tsp.specs.Instance.{Instance, weight_between}
 
 -- both directions of each pair of cities weigh the same
 abbrev pub IsSymmetric : Instance → Type 0
 IsSymmetric instance = (i j : ℕ) → 1 ≤ i → i ≤ instance.cities → 1 ≤ j → j ≤ instance.cities → weight_between instance i j ≡ weight_between instance j i
+
+-- whether they do
+abbrev pub is_symmetric : Instance → Bool
+is_symmetric instance =
+    list_all (λ i. list_all (λ j. weight_between instance i j == weight_between instance j i) (range_with_len 1 instance.cities))
+    (range_with_len 1 instance.cities)
 
 -- the weight between the cities of a pair
 abbrev pub pair_weight : Instance → (ℕ × ℕ) → ℕ

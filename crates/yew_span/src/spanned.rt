@@ -106,7 +106,7 @@ pub struct Spanned<'a> {
     pub inner: &'a Tours,
     /// Whether both directions of each pair of cities weigh the same.
     pub symmetric: bool,
-    ghost symmetric_is: { IsTrue symmetric ↔ IsSymmetric inner.now },
+    pub ghost symmetric_is: { IsTrue symmetric ↔ IsSymmetric inner.now },
 }
 
 impl<'a> Spanned<'a> {

@@ -9,6 +9,7 @@ mod HeaderParts
 mod HeaderSteps
 mod Kept
 mod KeyValues
+mod LastSteps
 mod Leaves
 mod Least
 mod Lowest

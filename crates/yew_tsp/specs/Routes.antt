@@ -22,6 +22,17 @@ way_length instance (c ∷ d ∷ cs) = weight_between instance c d + way_length 
 abbrev pub tour_length : Instance → List ℕ → ℕ
 tour_length instance cities = way_length instance (cities ++ 1 ∷ [])
 
+-- the weight of the last step along cities that begin with these two
+abbrev pub step_behind : Instance → ℕ → ℕ → List ℕ → ℕ
+step_behind instance c d [] = weight_between instance c d
+step_behind instance c d (e ∷ cs) = step_behind instance d e cs
+
+-- the weight of the last step along these cities, and 0 where there is no step
+abbrev pub last_step : Instance → List ℕ → ℕ
+last_step instance [] = 0
+last_step instance (c ∷ []) = 0
+last_step instance (c ∷ d ∷ cs) = step_behind instance c d cs
+
 -- the least length of all tours
 abbrev pub IsLeastLength : Instance → ℕ → Type 0
 IsLeastLength instance least = IsLeast (is_tour instance) (tour_length instance) least

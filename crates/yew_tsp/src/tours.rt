@@ -2,6 +2,8 @@
 
 ghost use Rattle.std.specs.Prelude.{◌≡◌, ◌*◌, ◌<◌, ◌≤◌, length, IfOk};
 ghost use Rattle.yew_tsp.specs.Instance.{Instance, IsWithinLimits, weight_between};
+ghost use Rattle.yew_tsp.specs.Routes.{last_step as step_in};
+ghost use Rattle.yew_tsp.specs.Nodes.{cities_of, IsNode};
 ghost use Rattle.yew_tsp.specs.Nodes.{least_weight, least_weights, surpluses as surpluses_in, surplus as surplus_between, surplus_at as entry};
 
 use crate::nodes::TourNode;
@@ -149,6 +151,19 @@ impl Tours {
             to as usize,
         );
         weight as u64
+    }
+
+    /// The weight of the last step of a node's list, and 0 for the root, whose list has no step.
+    #[inline(always)]
+    pub fn last_step(&self, node: &TourNode) -> u64
+        requires { IsNode self.now node.now }
+        ensures { result ≡ step_in self.now (cities_of node.now) }
+    {
+        let steps = node.steps as usize;
+        if steps == 0 {
+            return 0;
+        }
+        self.weight(node.cities[steps - 1] as u32, node.last as u32)
     }
 
     /// The weights from each city to each, row by row.

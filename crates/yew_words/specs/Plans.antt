@@ -28,6 +28,8 @@ pub record Planned : Type 0 where
   pub target : Option ℕ
   pub gap : Option ℕ
   pub genus : ℕ
+  pub near : Bool
+  pub span : Bool
   pub audit : Bool
   pub report : Bool
   pub seed : ℕ
@@ -43,6 +45,8 @@ planned plan = record {
   target = plan.target;
   gap = plan.gap;
   genus = plan.genus;
+  near = plan.near;
+  span = plan.span;
   audit = plan.audit;
   report = plan.report;
   seed = plan.seed;
@@ -154,6 +158,8 @@ plan_of head files said = record {
   target = number_said (said options.Target);
   gap = number_said (said options.Gap);
   genus = number_or said options.Genus 0;
+  near = has_value said options.Near;
+  span = has_value said options.Span;
   audit = has_value said options.Audit;
   report = has_value said options.Report;
   seed = number_or said options.Seed 0;

@@ -72,6 +72,14 @@ abbrev pub has_genus : Head → Bool
 has_genus (Search problems.Semigroups coordination) = true
 has_genus _ = false
 
+abbrev pub has_near : Head → Bool
+has_near (Search problems.Tsp coordination) = true
+has_near _ = false
+
+abbrev pub has_span : Head → Bool
+has_span (Search problems.Tsp coordination) = true
+has_span _ = false
+
 abbrev pub has_solve : Head → Bool
 has_solve (Make made.Knapsack) = true
 has_solve (Make made.Tsp) = true
@@ -92,6 +100,8 @@ option_row options.Chunk = record { word = codes "--chunk"; follows = λ head. O
 option_row options.Target = record { word = codes "--target"; follows = λ head. Number 0 1099511627774; suits = has_target; excluded_by = options.Gap ∷ [] }
 option_row options.Gap = record { word = codes "--gap"; follows = λ head. Number 0 1099511627774; suits = has_gap; excluded_by = options.Target ∷ [] }
 option_row options.Genus = record { word = codes "--genus"; follows = λ head. Number 0 40; suits = has_genus; excluded_by = [] }
+option_row options.Near = record { word = codes "--near"; follows = λ head. Nothing; suits = has_near; excluded_by = [] }
+option_row options.Span = record { word = codes "--span"; follows = λ head. Nothing; suits = has_span; excluded_by = [] }
 option_row options.Report = record { word = codes "--report"; follows = λ head. Nothing; suits = of_search; excluded_by = [] }
 option_row options.Audit = record { word = codes "--audit"; follows = λ head. Nothing; suits = of_search; excluded_by = [] }
 option_row options.Seed = record { word = codes "--seed"; follows = λ head. Number 0 18446744073709551615; suits = of_make; excluded_by = [] }
@@ -102,7 +112,7 @@ option_row options.Solve = record { word = codes "--solve"; follows = λ head. N
 abbrev pub every_option : List OptionName
 every_option =
     options.Workers ∷ options.Depth ∷ options.Budget ∷ options.Chunk ∷ options.Target ∷ options.Gap ∷ options.Genus
-    ∷ options.Report ∷ options.Audit ∷ options.Seed ∷ options.Size ∷ options.Solve ∷ []
+    ∷ options.Near ∷ options.Span ∷ options.Report ∷ options.Audit ∷ options.Seed ∷ options.Size ∷ options.Solve ∷ []
 
 abbrev pub option_word : OptionName → Word
 option_word name = (option_row name).word

@@ -23,6 +23,8 @@ pub fn make_plan<'a>(head: Head, files: &'a [String], settings: &Settings) -> Pl
         target: settings.number(OptionName::Target),
         gap: settings.number(OptionName::Gap),
         genus: number(head, settings, OptionName::Genus, 0),
+        near: settings.is_given(OptionName::Near),
+        span: settings.is_given(OptionName::Span),
         audit: settings.is_given(OptionName::Audit),
         report: settings.is_given(OptionName::Report),
         seed: settings.number(OptionName::Seed).unwrap_or(0),

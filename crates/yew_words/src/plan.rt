@@ -16,7 +16,7 @@ pub enum Made {
 /// What is done.
 #[derive(Clone, Copy, Debug, PartialEq, Eq)]
 pub enum Job {
-    /// The 0/1 knapsack problem.
+    /// The knapsack problem, with copies of items.
     Knapsack,
     /// The travelling salesperson problem.
     Tsp,
@@ -67,6 +67,10 @@ pub struct Plan<'a> {
     pub gap: Option<u64>,
     /// The greatest genus that is counted: at most 40.
     pub genus: u32,
+    /// Whether the steps of a tour are tried by rising weight.
+    pub near: bool,
+    /// Whether the bound of a tour takes a least spanning tree into account.
+    pub span: bool,
     /// Whether the audit is written.
     pub audit: bool,
     /// Whether the report is written.

@@ -26,6 +26,8 @@ fn plain() -> Plan<'static> {
         target: None,
         gap: None,
         genus: 0,
+        near: false,
+        span: false,
         audit: false,
         report: false,
         seed: 0,
@@ -54,6 +56,8 @@ fn expect_plan(rt: &impl Abort, line: &str, words: &[String], files: &[&str], wa
     assert_eq!(rt; plan.target, want.target, "target: {line}");
     assert_eq!(rt; plan.gap, want.gap, "gap: {line}");
     assert_eq!(rt; plan.genus, want.genus, "genus: {line}");
+    assert_eq!(rt; plan.near, want.near, "near: {line}");
+    assert_eq!(rt; plan.span, want.span, "span: {line}");
     assert_eq!(rt; plan.audit, want.audit, "audit: {line}");
     assert_eq!(rt; plan.report, want.report, "report: {line}");
     assert_eq!(rt; plan.seed, want.seed, "seed: {line}");
@@ -98,6 +102,33 @@ fn plans_of_searches(rt: HostRuntime) -> Result<(), Fail> {
                 job: Job::Tsp,
                 gap: Some(0),
                 ..crew(Skeleton::Budget(1000))
+            },
+        ),
+        (
+            "tsp sequential k1 --near",
+            Plan {
+                job: Job::Tsp,
+                near: true,
+                ..plain()
+            },
+        ),
+        (
+            "tsp ordered k1 --span --audit",
+            Plan {
+                job: Job::Tsp,
+                span: true,
+                audit: true,
+                ..crew(Skeleton::Ordered(2))
+            },
+        ),
+        (
+            "tsp steal k1 --span --gap 3 --near",
+            Plan {
+                job: Job::Tsp,
+                gap: Some(3),
+                near: true,
+                span: true,
+                ..crew(Skeleton::Steal { all: false })
             },
         ),
         (
@@ -316,6 +347,16 @@ fn names_of_options(rt: HostRuntime) -> Result<(), Fail> {
         ("subgraph steal g1 g2 --gap 2", 5, UsageKind::NotHere),
         ("semigroups sequential --gap 2", 3, UsageKind::NotHere),
         ("make tsp --gap 2", 3, UsageKind::NotHere),
+        ("knapsack sequential k1 --near", 4, UsageKind::NotHere),
+        ("flow ordered f1 --span", 4, UsageKind::NotHere),
+        ("make tsp --near", 3, UsageKind::NotHere),
+        (
+            "tsp ordered t1 --near --span --near",
+            6,
+            UsageKind::Repeated,
+        ),
+        ("tsp sequential t1 --near=1", 4, UsageKind::Unknown),
+        ("tsp sequential t1 --span 1", 5, UsageKind::Unknown),
         (
             "knapsack sequential k1 --target 5 --gap 2",
             6,

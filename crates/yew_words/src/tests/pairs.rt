@@ -30,23 +30,31 @@ const HEADS: [(&str, &str, &str); 28] = [
         "--workers --depth --target --report --audit",
         "",
     ),
-    ("tsp sequential t1", "--gap --report --audit", ""),
+    (
+        "tsp sequential t1",
+        "--gap --near --span --report --audit",
+        "",
+    ),
     (
         "tsp depth t1",
-        "--workers --depth --gap --report --audit",
+        "--workers --depth --gap --near --span --report --audit",
         "",
     ),
     (
         "tsp budget t1",
-        "--workers --budget --gap --report --audit",
+        "--workers --budget --gap --near --span --report --audit",
         "",
     ),
     (
         "tsp steal t1",
-        "--workers --chunk --gap --report --audit",
+        "--workers --chunk --gap --near --span --report --audit",
         "",
     ),
-    ("tsp ordered t1", "--workers --depth --report --audit", ""),
+    (
+        "tsp ordered t1",
+        "--workers --depth --near --span --report --audit",
+        "",
+    ),
     ("subgraph sequential g1 g2", "--report --audit", ""),
     (
         "subgraph depth g1 g2",
@@ -116,7 +124,7 @@ const HEADS: [(&str, &str, &str); 28] = [
 ];
 
 /// Each option's name, and its words.
-const OPTIONS: [(&str, &str); 12] = [
+const OPTIONS: [(&str, &str); 14] = [
     ("--workers", "--workers 3"),
     ("--depth", "--depth 2"),
     ("--budget", "--budget 9"),
@@ -124,6 +132,8 @@ const OPTIONS: [(&str, &str); 12] = [
     ("--target", "--target 7"),
     ("--gap", "--gap 60"),
     ("--genus", "--genus 5"),
+    ("--near", "--near"),
+    ("--span", "--span"),
     ("--report", "--report"),
     ("--audit", "--audit"),
     ("--seed", "--seed 1"),

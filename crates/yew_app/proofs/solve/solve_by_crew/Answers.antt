@@ -3,9 +3,6 @@ use denote.Param.Send.{sendable}
 use Rattle.yew_knap.proofs.nodes.KnapNode.TheSendSync.{the_send as knap_node}
 use Rattle.yew_knap.proofs.nodes.KnapKids.TheSendSync.{the_send as knap_kids}
 use Rattle.yew_knap.proofs.knapsack.Knapsack.TheSendSync.{the_sync as knapsack}
-use Rattle.yew_tsp.proofs.nodes.TourNode.TheSendSync.{the_send as tour_node}
-use Rattle.yew_tsp.proofs.nodes.TourKids.TheSendSync.{the_send as tour_kids}
-use Rattle.yew_tsp.proofs.tours.Tours.TheSendSync.{the_sync as tours}
 use Rattle.yew_flow.proofs.flow.Flow.TheSendSync.{the_sync as flow}
 use Rattle.yew_flow.proofs.nodes.FlowNode.TheSendSync.{the_send as flow_node}
 use Rattle.yew_flow.proofs.nodes.FlowKids.TheSendSync.{the_send as flow_kids}
@@ -22,9 +19,6 @@ use Rattle.yew_app.proofs.solve.solve_by_crew.Goals as goal
 
 pub solve_together-requires : goal.solve_together-requires
 solve_together-requires g b c = (search (knap_node, sendable) depth 20, (search (knap_kids, sendable) depth 20, (search sendable depth 20, ((let shares = b.type_bounds.sync-G in search sendable depth 20), ((let shares = b.type_bounds.sync-H in search sendable depth 20), (search (knapsack, sendable) depth 20, (search (no_tally, sendable) depth 20, ((refl, tt), (b.plan_is_askable.ensures, b.knapsack_of-job.ensures.exact)))))))))
-
-pub solve_together-requires-in-Tsp : goal.solve_together-requires-in-Tsp
-solve_together-requires-in-Tsp g b c = (search (tour_node, sendable) depth 20, (search (tour_kids, sendable) depth 20, (search sendable depth 20, ((let shares = b.type_bounds.sync-G in search sendable depth 20), ((let shares = b.type_bounds.sync-H in search sendable depth 20), (search (tours, sendable) depth 20, (search (no_tally, sendable) depth 20, ((refl, tt), (b.plan_is_askable.ensures, b.tours_of-job.ensures.exact)))))))))
 
 pub solve_together-requires-in-Subgraph : goal.solve_together-requires-in-Subgraph
 solve_together-requires-in-Subgraph g b c = (search (map_node, sendable) depth 20, (search (map_kids, sendable) depth 20, (search sendable depth 20, ((let shares = b.type_bounds.sync-G in search sendable depth 20), ((let shares = b.type_bounds.sync-H in search sendable depth 20), (search (subgraph, sendable) depth 20, (search (no_tally, sendable) depth 20, ((refl, tt), (b.plan_is_askable.ensures, λ ordered. tt)))))))))

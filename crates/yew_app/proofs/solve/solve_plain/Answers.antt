@@ -3,7 +3,6 @@ use denote.Param.Send.{sendable}
 use Rattle.yew_knap.proofs.nodes.KnapNode.TheSendSync.{the_send as knap_node}
 use Rattle.yew_knap.proofs.nodes.KnapKids.TheSendSync.{the_send as knap_kids}
 use Rattle.yew_knap.proofs.knapsack.Knapsack.TheSendSync.{the_sync as knapsack}
-use Rattle.yew_tsp.proofs.tours.Tours.TheSendSync.{the_sync as tours}
 use Rattle.yew_flow.proofs.flow.Flow.TheSendSync.{the_sync as flow}
 use Rattle.yew_flow.proofs.nodes.FlowNode.TheSendSync.{the_send as flow_node}
 use Rattle.yew_flow.proofs.nodes.FlowKids.TheSendSync.{the_send as flow_kids}
@@ -13,9 +12,6 @@ use Rattle.yew_app.proofs.solve.solve_plain.Goals as goal
 
 pub solve_alone-requires : goal.solve_alone-requires
 solve_alone-requires g b c = (search (knap_node, sendable) depth 20, (search (knap_kids, sendable) depth 20, (search sendable depth 20, (search (knapsack, sendable) depth 20, (search sendable depth 20, ((refl, tt), (b.plan_is_askable.ensures, b.requires.done)))))))
-
-pub solve_alone-requires-in-Tsp : goal.solve_alone-requires-in-Tsp
-solve_alone-requires-in-Tsp g b c = (search sendable depth 20, (search sendable depth 20, (search sendable depth 20, (search (tours, sendable) depth 20, (search sendable depth 20, ((refl, tt), (b.plan_is_askable.ensures, b.requires.done)))))))
 
 pub solve_alone-requires-in-Subgraph : goal.solve_alone-requires-in-Subgraph
 solve_alone-requires-in-Subgraph g b c = (search sendable depth 20, (search (map_kids, sendable) depth 20, (search sendable depth 20, (search (subgraph, sendable) depth 20, (search sendable depth 20, ((refl, tt), (b.plan_is_askable.ensures, b.requires.done)))))))

@@ -1,42 +1,13 @@
-use Rattle.std.proofs.Common.{sym, subst}
-use Rattle.yew_knap.specs.Files.{IsKnapsackFile}
+use Rattle.std.proofs.lemmas.Result.{IfOk-weaker}
 use Rattle.yew_knap.specs.Instance.{IsWithinLimits}
 use Rattle.yew_knap.specs.NodeLaws.{root-sound}
-use Rattle.yew_knap.proofs.FileReader.{first_fault, second_fault, items_end, surplus, too_large, is_file, is_within}
+use Rattle.yew_knap.specs.Nodes.{root_of, IsNode}
 use Rattle.yew_knap.proofs.reading.read.Goals as goal
 
-pub returns-in-Err-clause-end : goal.returns-in-Err-clause-end
-returns-in-Err-clause-end c =
-    first_fault c.args.bytes.now c.new-cursor.result c.new-cursor.ensures c.number.new.self c.in-Err.fault c.in-Err.ensures.taken
+pub returns-in-Triples-clause-root : goal.returns-in-Triples-clause-root
+returns-in-Triples-clause-root c =
+    IfOk-weaker c.read_triples.result IsWithinLimits (λ problem. IsNode problem (root_of problem)) root-sound c.read_triples.ensures.limits
 
-pub returns-in-Err-number-clause-end : goal.returns-in-Err-number-clause-end
-returns-in-Err-number-clause-end c =
-    second_fault c.args.bytes.now c.new-cursor.result c.new-cursor.ensures c.number.new.self c.in-Ok.number c.in-Ok.ensures.taken c.in-Ok.ensures.same c.number-2.new.self c.in-Err-number.fault c.in-Err-number.ensures.taken
-
-pub returns-in-Err-read_items-clause-end : goal.returns-in-Err-read_items-clause-end
-returns-in-Err-read_items-clause-end c =
-    items_end c.args.bytes.now c.new-cursor.result c.new-cursor.ensures c.number.new.self c.in-Ok.number c.in-Ok.ensures.taken c.in-Ok.ensures.same c.number-2.new.self c.in-Ok-number.number c.in-Ok-number.ensures.taken c.in-Ok-number.ensures.same c.in-Err-read_items.end c.in-Err-read_items.ensures.read
-
-pub returns-in-Err-end-clause-end : goal.returns-in-Err-end-clause-end
-returns-in-Err-end-clause-end c =
-    surplus c.args.bytes.now c.new-cursor.result c.new-cursor.ensures c.number.new.self c.in-Ok.number c.in-Ok.ensures.taken c.in-Ok.ensures.same c.number-2.new.self c.in-Ok-number.number c.in-Ok-number.ensures.taken c.in-Ok-number.ensures.same c.read_items.new.cursor c.in-Ok-read_items.read.items.items c.in-Ok-read_items.read.past c.in-Ok-read_items.ensures.read c.in-Err-end.fault c.in-Err-end.ensures.ends
-
-pub returns-in-Some-clause-end : goal.returns-in-Some-clause-end
-returns-in-Some-clause-end c =
-    too_large c.args.bytes.now c.new-cursor.result c.new-cursor.ensures c.number.new.self c.in-Ok.number c.in-Ok.ensures.taken c.in-Ok.ensures.same c.number-2.new.self c.in-Ok-number.number c.in-Ok-number.ensures.taken c.in-Ok-number.ensures.same c.read_items.new.cursor c.in-Ok-read_items.read.items.items c.in-Ok-read_items.read.past c.in-Ok-read_items.ensures.read c.in-Ok-end.ensures.ends c.in-Some.past c.in-Some.is
-
-pub returns-in-Ok-new-clause-file : goal.returns-in-Ok-new-clause-file
-returns-in-Ok-new-clause-file c =
-    subst (IsKnapsackFile c.args.bytes.now) (sym c.in-Ok-new.ensures)
-    (is_file c.args.bytes.now c.new-cursor.result c.new-cursor.ensures c.number.new.self c.in-Ok.number c.in-Ok.ensures.taken c.in-Ok.ensures.same c.number-2.new.self c.in-Ok-number.number c.in-Ok-number.ensures.taken c.in-Ok-number.ensures.same c.read_items.new.cursor c.in-Ok-read_items.read.items.items c.in-Ok-read_items.read.past c.in-Ok-read_items.ensures.read c.in-Ok-end.ensures.ends c.in_default.is)
-
-pub returns-in-Ok-new-clause-limits : goal.returns-in-Ok-new-clause-limits
-returns-in-Ok-new-clause-limits c =
-    subst IsWithinLimits (sym c.in-Ok-new.ensures)
-    (is_within c.args.bytes.now c.new-cursor.result c.new-cursor.ensures c.number.new.self c.in-Ok.number c.in-Ok.ensures.taken c.in-Ok.ensures.same c.number-2.new.self c.in-Ok-number.number c.in-Ok-number.ensures.taken c.in-Ok-number.ensures.same c.read_items.new.cursor c.in-Ok-read_items.read.items.items c.in-Ok-read_items.read.past c.in-Ok-read_items.ensures.read c.in-Ok-end.ensures.ends c.in_default.is)
-
-pub returns-in-Ok-new-clause-root : goal.returns-in-Ok-new-clause-root
-returns-in-Ok-new-clause-root c =
-    root-sound c.in-Ok-new.problem
-    (subst IsWithinLimits (sym c.in-Ok-new.ensures)
-    (is_within c.args.bytes.now c.new-cursor.result c.new-cursor.ensures c.number.new.self c.in-Ok.number c.in-Ok.ensures.taken c.in-Ok.ensures.same c.number-2.new.self c.in-Ok-number.number c.in-Ok-number.ensures.taken c.in-Ok-number.ensures.same c.read_items.new.cursor c.in-Ok-read_items.read.items.items c.in-Ok-read_items.read.past c.in-Ok-read_items.ensures.read c.in-Ok-end.ensures.ends c.in_default.is))
+pub returns-in-Pairs-clause-root : goal.returns-in-Pairs-clause-root
+returns-in-Pairs-clause-root c =
+    IfOk-weaker c.read_body.result IsWithinLimits (λ problem. IsNode problem (root_of problem)) root-sound c.read_body.ensures.limits

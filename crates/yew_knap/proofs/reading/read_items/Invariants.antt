@@ -4,6 +4,6 @@ use Rattle.yew_knap.proofs.reading.read_items.Given as goal
 
 abbrev pub invariant-loop-k : goal.invariant-loop-k
 invariant-loop-k l = record {
-  read : ItemsRead l.fn.cursor l.n l.capacity l.k l.items.items l.past l.cursor;
+  read : ItemsRead l.form l.fn.cursor l.n l.capacity l.k l.kept.items.items l.kept.total l.kept.past l.cursor;
   same : SameText l.fn.cursor l.cursor;
 }

@@ -1,7 +1,7 @@
 use Rattle.std.proofs.Common.{◌≡◌, ℕ, ◌*◌, ◌-◌, ◌/◌, Bool, List, ◌++◌, length, map, ap, ◌∙◌, arith}
 use Rattle.std.proofs.lemmas.Result.{on_ok_weaker}
 use Rattle.yew_lad.specs.Files.{vertex_numbers}
-use Rattle.yew_make.specs.Rows.{row_lines}
+use Rattle.yew_knap.specs.Rows.{row_lines}
 use Rattle.yew_make.specs.Draws.{word_from}
 use Rattle.yew_make.specs.Graphs.{joins, kept, graph_of}
 use Rattle.yew_make.proofs.Pairs.{pairs-many, graph-pushed}

@@ -1,7 +1,7 @@
 use Rattle.std.proofs.Common.{ℕ, List, ◌++◌, ap, ◌∙◌}
 use Rattle.yew_lad.specs.Files.{vertex_numbers}
 use Rattle.yew_make.specs.Graphs.{kept, successors_of}
-use Rattle.yew_make.specs.Rows.{row_line}
+use Rattle.yew_knap.specs.Rows.{row_line}
 use Rattle.yew_make.proofs.Pairs.{vertex_lines-more}
 use Rattle.yew_make.proofs.graph.push_vertices.Goals as goal
 

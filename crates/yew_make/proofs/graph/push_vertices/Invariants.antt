@@ -1,7 +1,7 @@
 use Rattle.std.proofs.Common.{◌≡◌, ◌++◌, map}
 use Rattle.std.specs.List.{range_with_len}
 use Rattle.yew_lad.specs.Files.{vertex_numbers}
-use Rattle.yew_make.specs.Rows.{row_lines}
+use Rattle.yew_knap.specs.Rows.{row_lines}
 use Rattle.yew_make.specs.Graphs.{kept, successors_of}
 use Rattle.yew_make.proofs.graph.push_vertices.Given as goal
 

@@ -2,9 +2,10 @@ use Rattle.std.proofs.Common.{List, ◌++◌, length, map, ap, ◌∙◌, arith}
 use Rattle.std.specs.Prelude.{sum_by}
 use Rattle.std.proofs.lemmas.Result.{on_ok_weaker}
 use Rattle.yew_make.specs.declared.knapsack.MadeItem.{MadeItem}
+use Rattle.yew_knap.specs.declared.form.Form.TheVariants.{Pairs}
 use Rattle.yew_knap.specs.Files.{item_numbers}
 use Rattle.yew_make.specs.Knapsacks.{item_of}
-use Rattle.yew_make.specs.Rows.{row_lines}
+use Rattle.yew_knap.specs.Rows.{row_lines}
 use Rattle.yew_make.proofs.Items.{items-many, knapsack-pushed}
 use Rattle.yew_make.proofs.knapsack.push_knapsack.Goals as goal
 
@@ -23,5 +24,5 @@ returns c =
     knapsack-pushed c.args.draws.now c.args.size items c.total_weight-capacity.result c.args.out.now.items c.push_pair.new.out.items c.push_items.new.out.items c.in_ok-items.ensures
     (c.total_weight-capacity.ensures ∙ ap (sum_by (λ (item : MadeItem). item.weight)) c.as_slice.ensures.value)
     c.in_ok-push_pair.ensures
-    (e ∙ ap (λ (l : List MadeItem). c.push_pair.new.out.items ++ row_lines (map item_numbers (map item_of l))) c.as_slice-2.ensures.value))
+    (e ∙ ap (λ (l : List MadeItem). c.push_pair.new.out.items ++ row_lines (map (item_numbers Pairs) (map item_of l))) c.as_slice-2.ensures.value))
     c.push_items.ensures

@@ -1,6 +1,6 @@
 use Rattle.std.proofs.Common.{ℕ, List, ◌++◌, decimal, sym, ap, ◌∙◌, append_assoc}
 use Rattle.yew_make.specs.Draws.{next_state, weights_from}
-use Rattle.yew_make.specs.Rows.{spaced_apart}
+use Rattle.yew_knap.specs.Rows.{spaced_apart}
 use Rattle.yew_lines.specs.Spelling.{spaced}
 use Rattle.yew_make.proofs.Generator.{state_after-none, state_after-more}
 use Rattle.yew_make.proofs.RowSteps.{weights_from-one, weights_from-more}

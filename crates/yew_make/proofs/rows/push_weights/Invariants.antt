@@ -1,6 +1,6 @@
 use Rattle.std.proofs.Common.{◌≡◌, ◌++◌}
 use Rattle.yew_make.specs.Draws.{state_after, weights_from}
-use Rattle.yew_make.specs.Rows.{spaced_apart}
+use Rattle.yew_knap.specs.Rows.{spaced_apart}
 use Rattle.yew_make.proofs.rows.push_weights.Given as goal
 
 -- the first weights are there

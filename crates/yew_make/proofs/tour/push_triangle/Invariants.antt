@@ -1,7 +1,7 @@
 use Rattle.std.proofs.Common.{◌≡◌, ◌++◌, map}
 use Rattle.std.specs.List.{range_with_len}
 use Rattle.yew_make.specs.Draws.{state_after}
-use Rattle.yew_make.specs.Rows.{row_lines}
+use Rattle.yew_knap.specs.Rows.{row_lines}
 use Rattle.yew_make.specs.Pairs.{pairs_before}
 use Rattle.yew_make.specs.Tours.{triangle_row}
 use Rattle.yew_make.proofs.tour.push_triangle.Given as goal

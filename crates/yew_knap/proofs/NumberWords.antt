@@ -13,7 +13,7 @@ use Rattle.yew_text.specs.Numbers.{is_digits, value_of, greatest, IsNumber}
 use Rattle.yew_text.specs.Laws.{EndsWord}
 use Rattle.yew_text.proofs.Splitting.{word_laws, digits_black}
 use Rattle.yew_lines.specs.Spelling.{spaced}
-use Rattle.yew_make.specs.Rows.{row_line, row_lines, row_numbers}
+use Rattle.yew_knap.specs.Rows.{row_line, row_lines, row_numbers}
 
 -- ---- the digits of a number
 
